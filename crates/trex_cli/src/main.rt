@@ -1,0 +1,38 @@
+// The program trex: command words, standard input, standard output and standard error around the top call.
+#![tactic(auto)]
+
+use std::env;
+use std::io::ErrorKind;
+use std::process::ExitCode;
+use trex_io::{StdSink, StdSource, write_all};
+use trex_top::{Status, trex_main};
+
+fn main(rt: HostRuntime) -> ExitCode {
+    let mut notes = StdSink::new(rt.stderr());
+    let mut words = Vec::new(rt.alloc());
+    match env::args(&rt) {
+        Ok(all) => {
+            for word in all.skip(1) {
+                if words.push(word).is_err() {
+                    return ended(Status::Memory);
+                }
+            }
+        }
+        Err(e) => {
+            if e.kind() == ErrorKind::OutOfMemory {
+                return ended(Status::Memory);
+            }
+            let _ = write_all(&mut notes, b"usage: NotText\n");
+            return ended(Status::Usage);
+        }
+    }
+    let mut input = StdSource::new(rt.stdin());
+    let mut out = StdSink::new(rt.stdout());
+    let status = trex_main(rt.alloc(), &words, &mut input, &mut out, &mut notes);
+    ended(status)
+}
+
+/// The exit status of the program.
+fn ended(status: Status) -> ExitCode {
+    ExitCode::from(status as u8)
+}

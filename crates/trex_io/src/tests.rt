@@ -1,0 +1,80 @@
+use super::*;
+use std::alloc::{AllocError, Global};
+use std::test::Fail;
+
+fn numbers(alloc: Global, list: &[u64]) -> Result<Vec<u64>, AllocError> {
+    list.to_vec(alloc)
+}
+
+// Five bytes, at most two a call, failing at the calls of the list.
+fn letters(alloc: Global, failing: &[u64]) -> Result<MemSource, AllocError> {
+    Ok(MemSource::new(b"abcde".to_vec(alloc)?, 2, numbers(alloc, failing)?))
+}
+
+#[test]
+fn a_source_in_memory_fails_at_its_call_and_then_goes_on(rt: HostRuntime) -> Result<(), Fail> {
+    let mut source = letters(rt.alloc(), &[2])?;
+    let mut into = [0u8; 4];
+    for (want, front) in [
+        (Ok(2), b"ab"),
+        (Err(Failed), b"ab"),
+        (Ok(2), b"cd"),
+        (Ok(1), b"ed"),
+        (Ok(0), b"ed"),
+    ] {
+        assert_eq!(rt; source.read(&mut into), want);
+        assert_eq!(rt; &into[..2], front.as_slice());
+    }
+    Ok(())
+}
+
+#[test]
+fn a_sink_in_memory_fails_at_its_call_and_when_it_is_full(rt: HostRuntime) -> Result<(), Fail> {
+    let mut sink = MemSink::new(rt.alloc(), 5, 2, numbers(rt.alloc(), &[2])?)?;
+    for want in [Ok(2), Err(Failed), Ok(2), Ok(1), Err(Failed)] {
+        assert_eq!(rt; sink.write(b"xyz"), want);
+    }
+    assert_eq!(rt; sink.write(b""), Ok(0));
+    assert_eq!(rt; sink.bytes(), b"xyxyx".as_slice());
+    Ok(())
+}
+
+#[test]
+fn a_source_is_read_to_its_end_or_to_its_fault_or_past_the_limit(
+    rt: HostRuntime,
+) -> Result<(), Fail> {
+    let all = read_all(rt.alloc(), &mut letters(rt.alloc(), &[])?, 5)?;
+    assert_eq!(rt; all.as_slice(), b"abcde".as_slice());
+    let long = read_all(rt.alloc(), &mut letters(rt.alloc(), &[])?, 4);
+    assert!(rt; matches!(long, Err(ReadAll::TooLong { limit: 4 })));
+    let failed = read_all(rt.alloc(), &mut letters(rt.alloc(), &[3])?, 5);
+    assert!(rt; matches!(failed, Err(ReadAll::Fault)));
+    Ok(())
+}
+
+#[test]
+fn pieces_are_written_whole_or_up_to_the_failing_call(rt: HostRuntime) -> Result<(), Fail> {
+    let pieces: [&[u8]; 3] = [b"abc", b"", b"def"];
+    let mut whole = MemSink::new(rt.alloc(), 6, 2, numbers(rt.alloc(), &[])?)?;
+    assert_eq!(rt; write_pieces(&mut whole, &pieces), Ok(()));
+    assert_eq!(rt; whole.bytes(), b"abcdef".as_slice());
+    let mut part = MemSink::new(rt.alloc(), 6, 2, numbers(rt.alloc(), &[2])?)?;
+    assert_eq!(rt; write_all(&mut part, b"abcdef"), Err(Failed));
+    assert_eq!(rt; part.bytes(), b"ab".as_slice());
+    Ok(())
+}
+
+#[test]
+fn std_streams_are_a_source_and_a_sink(rt: HostRuntime) -> Result<(), Fail> {
+    let text = b"a reader of std\n";
+    let all = read_all(rt.alloc(), &mut StdSource::new(text.as_slice()), 100)?;
+    assert_eq!(rt; all.as_slice(), text.as_slice());
+    assert_eq!(rt; write_all(&mut StdSink::new(rt.stdout()), &all), Ok(()));
+    let mut room = [0u8; 4];
+    assert_eq!(rt;
+        write_all(&mut StdSink::new(room.as_mut_slice()), &all),
+        Err(Failed)
+    );
+    assert_eq!(rt; room.as_slice(), b"a re".as_slice());
+    Ok(())
+}

@@ -1,0 +1,4 @@
+pub mod Json
+pub mod Profile
+pub mod Form
+pub mod Verdict

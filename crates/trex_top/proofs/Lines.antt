@@ -1,0 +1,13 @@
+-- Lines on whose failing nothing hangs.
+use Rattle.std.proofs.Common.{◌≡◌, ℕ, ◌≤◌, List, Option, Result, Ok, Err, length, take, subst, sym, arith}
+use Rattle.std.proofs.lemmas.List.{take_all}
+use Rattle.trex_io.specs.Texts.{Wrote, WrotePrefix, Writes}
+use Rattle.trex_top.specs.Clauses.{Tells}
+
+-- a call that writes a line tells it
+pub Tells-from_Writes : {K T E : Type 0} (held : K → Option (List ℕ)) (faults : K → ℕ) (old new : K) (result : Result T E) (line : List ℕ)
+    → Writes held faults old new result line → Tells held faults old new line
+Tells-from_Writes held faults old new (Ok x) line writes =
+    record { prefix = (length line, subst (Wrote held old new) (sym (take_all (length line) line (omega arith))) writes.whole); whole = λ calm. writes.whole }
+Tells-from_Writes held faults old new (Err e) line writes =
+    record { prefix = (writes.part.0, writes.part.2); whole = λ calm. absurd (calm writes.cause.failed) }
