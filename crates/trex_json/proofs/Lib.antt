@@ -1,1 +1,3 @@
-pub mod Json
+pub mod JsonLemmas
+pub mod Groups
+pub mod Decimals

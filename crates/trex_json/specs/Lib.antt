@@ -1,4 +1,8 @@
 pub mod Json
-pub mod Profile
-pub mod Form
+pub mod Kinds
+pub mod Names
+pub mod Rows
+pub mod Shape
+pub mod Order
+pub mod Answer
 pub mod Verdict

@@ -1,35 +1,52 @@
--- The verdict on a profile's text: the first rule that it breaks, or what it says.
-use Rattle.std.specs.Prelude.{◌≡◌, ℕ, nat_lt, List, length, Option, Some, None, Result, Ok, Err, if◌then◌else◌}
+-- The verdict on a profile's text: the first rule that it breaks, or its streams (own).
+use Rattle.std.specs.Prelude.{◌≡◌, ℕ, nat_lt, List, [], ◌∷◌, length, map, Option, is_none, option_map, option_and_then, unwrap_or, Result, Ok, Err}
 use Rattle.serde_json.specs.Data.{Data}
-use Rattle.trex_json.specs.declared.rule.Rule.{Rule}
-use Rattle.trex_json.specs.declared.rule.Rule.TheVariants.{TooLong, NotJson, Unbuilt}
-use Rattle.trex_json.specs.declared.rule.Refusal.{Refusal}
-use Rattle.trex_json.specs.declared.reading.ProfileFault.{ProfileFault}
-use Rattle.trex_json.specs.declared.reading.ProfileFault.TheVariants.{Refused, Memory}
+use Rattle.trex_profile.specs.declared.rule.Rule.TheVariants.{TooLong, NotJson, NotArray, TooManyStreams, Unbuilt}
+use Rattle.trex_profile.specs.declared.refusal.Refusal.{Refusal}
+use Rattle.trex_profile.specs.declared.refusal.Breach.{Breach}
+use Rattle.trex_profile.specs.Order.{first, first_each, unless, ◌>>=◌}
+use Rattle.trex_profile.specs.Refusal.{document}
+use Rattle.trex_profile.specs.Admission.{admitted}
+use Rattle.trex_profile.specs.Stream.{Stream}
+use Rattle.trex_json.specs.declared.fault.ProfileFault.{ProfileFault}
+use Rattle.trex_json.specs.Answer.{Reads}
 use Rattle.trex_json.specs.Json.{json_of}
-use Rattle.trex_json.specs.Profile.{Stream}
-use Rattle.trex_json.specs.Form.{stream_of}
+use Rattle.trex_json.specs.Kinds.{an_array}
+use Rattle.trex_json.specs.Shape.{shape_refusal, entry_stream}
 
--- the refusal for a rule about the whole document
-abbrev pub of_document : Rule → Refusal
-of_document rule = record { rule = rule; stream = None; at = None }
+-- the entries of a text that is an array
+abbrev pub array_of : List ℕ → Option (List Data)
+array_of text = option_and_then an_array (json_of text)
 
--- the verdict on a document
-abbrev pub document_verdict : Option Data → Result Stream Refusal
-document_verdict None = Err (of_document NotJson)
-document_verdict (Some d) = stream_verdict (stream_of d)
-  where
-    stream_verdict : Option Stream → Result Stream Refusal
-    stream_verdict None = Err (of_document Unbuilt)
-    stream_verdict (Some s) = Ok s
+-- the same, none where it isn't one
+abbrev pub entries : List ℕ → List Data
+entries text = unwrap_or (array_of text) []
 
--- the verdict on a text
-abbrev pub verdict : List ℕ → Result Stream Refusal
-verdict text =
-    if nat_lt 33554432 (length text) then Err (of_document TooLong) else document_verdict (json_of text)
+-- the rules on entries: how many there are, then entry by entry
+abbrev pub entries_refusal : List Data → Option Refusal
+entries_refusal entries = first (
+    document TooManyStreams (nat_lt 4096 (length entries))
+    ∷ document Unbuilt (nat_lt 1 (length entries))
+    ∷ first_each shape_refusal 0 entries
+    ∷ [])
+
+-- the rules on the document, then those on shapes
+unfoldable pub text_refusal : List ℕ → Option Refusal
+text_refusal text = first (
+    document TooLong (nat_lt 33554432 (length text))
+    ∷ document NotJson (is_none (json_of text))
+    ∷ document NotArray (is_none (array_of text))
+    ∷ entries_refusal (entries text)
+    ∷ [])
+
+-- what a text says, unless a rule on documents or shapes is broken
+abbrev pub shape_of : List ℕ → Result (List Stream) Refusal
+shape_of text = unless (text_refusal text) (map entry_stream (entries text))
+
+-- what a text says, unless a rule is broken
+abbrev pub verdict : List ℕ → Result (List Stream) Refusal
+verdict text = shape_of text >>= admitted
 
 -- an answer is the verdict, unless memory ran out
-abbrev pub Answers : Result Stream ProfileFault → Result Stream Refusal → Type 0
-Answers (Ok s) verdict = verdict ≡ Ok s
-Answers (Err (Refused r)) verdict = verdict ≡ Err r
-Answers (Err Memory) verdict = Unit {0}
+abbrev pub Answers : Result (List Stream) ProfileFault → Result (List Stream) Refusal → Type 0
+Answers answer verdict = Reads (λ streams. streams) answer verdict

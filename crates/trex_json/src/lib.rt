@@ -1,11 +1,19 @@
-// Profiles as JSON texts: their reading, and the rules of refusal.
+// Profiles as JSON texts: their names, their kinds and defaults, and the rules of refusal on documents and shapes.
 #![tactic(auto)]
 
-mod form;
-mod profile;
+mod binary;
+mod entry;
+mod fault;
+mod kinds;
+mod mode;
+mod names;
+mod order;
 mod reading;
-mod rule;
+mod stream;
 
-pub use profile::Profile;
-pub use reading::{LONGEST_TEXT, ProfileFault, read_profile};
-pub use rule::{Refusal, Rule};
+pub use fault::ProfileFault;
+pub use order::shape_rules_in_order;
+pub use reading::{LONGEST_TEXT, read_profile};
+
+#[cfg(test)]
+mod tests;

@@ -1,2 +1,6 @@
+pub mod Counts
+pub mod Early
+pub mod Gathering
 pub mod Lines
-pub mod Sequence
+pub mod Schedule
+pub mod TooLong

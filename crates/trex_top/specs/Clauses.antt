@@ -1,54 +1,53 @@
 -- The words of the top call's clauses. Own.
-use Rattle.std.specs.Prelude.{◌≡◌, ℕ, ◌<◌, List, Option, Some, None, Result, Ok, Err, codes}
+use Rattle.std.specs.Prelude.{◌≡◌, ℕ, List, Option, Some, None, Result, Ok, Err, codes}
 use Rattle.trex_io.specs.Faults.{Rises}
-use Rattle.trex_io.specs.Texts.{Wrote, WrotePart, WrotePrefix}
-use Rattle.trex_json.specs.declared.rule.Refusal.{Refusal}
-use Rattle.trex_json.specs.Profile.{Stream}
+use Rattle.trex_io.specs.Texts.{Wrote, WrotePrefix}
+use Rattle.trex_profile.specs.declared.refusal.Refusal.{Refusal}
+use Rattle.trex_profile.specs.Stream.{Stream}
 use Rattle.trex_json.specs.Verdict.{verdict}
-use Rattle.trex_top.specs.declared.words.RunAsk.{RunAsk}
-use Rattle.trex_top.specs.declared.words.Asked.TheVariants.{Run}
-use Rattle.trex_top.specs.declared.input.ReadingStop.{ReadingStop}
-use Rattle.trex_top.specs.declared.input.ReadingStop.TheVariants.{Refused as RefusedText, ReadFault as UnreadText, Memory as NoRoomForText}
+use Rattle.trex_words.specs.declared.asked.RunAsk.{RunAsk}
+use Rattle.trex_words.specs.declared.asked.Asked.{Asked}
+use Rattle.trex_words.specs.declared.asked.Asked.TheVariants.{Run, Check}
+use Rattle.trex_words.specs.Asked.{asked}
 use Rattle.trex_top.specs.declared.command.Status.{Status}
 use Rattle.trex_top.specs.declared.command.Status.TheVariants.{Done, Usage, Refused, ReadFault, OutFault, NotesFault, Memory}
-use Rattle.trex_top.specs.Asked.{asked}
 
 -- the verdict on a text, where the text is told
-abbrev pub HasVerdict : Option (List ℕ) → Result Stream Refusal → Type 0
+abbrev pub HasVerdict : Option (List ℕ) → Result (List Stream) Refusal → Type 0
 HasVerdict None v = Unit {0}
 HasVerdict (Some text) v = verdict text ≡ v
 
 -- The text is a profile, and then this holds of it. It claims nothing of a text that isn't told.
-abbrev pub OnProfile : Option (List ℕ) → (Stream → Type 0) → Type 0
+abbrev pub OnProfile : Option (List ℕ) → (List Stream → Type 0) → Type 0
 OnProfile None P = Unit {0}
-OnProfile (Some text) P = (s : Stream) × (verdict text ≡ Ok s) × P s
+OnProfile (Some text) P = (p : List Stream) × (verdict text ≡ Ok p) × P p
 
--- why the reading of a profile stopped: it is refused, or the count of faults rose
-abbrev pub ReadingStops : {K : Type 0} → (K → Option (List ℕ)) → (K → ℕ) → K → K → ReadingStop → Type 0
-ReadingStops left faults old new (RefusedText r) = HasVerdict (left old) (Err r)
-ReadingStops left faults old new UnreadText = Rises faults old new
-ReadingStops left faults old new NoRoomForText = Unit {0}
+-- the text is refused, and then this holds of the refusal
+abbrev pub OnRefusal : Option (List ℕ) → (Refusal → Type 0) → Type 0
+OnRefusal None P = Unit {0}
+OnRefusal (Some text) P = (r : Refusal) × (verdict text ≡ Err r) × P r
 
--- The words ask for a run and the text is a profile, and then this holds of the two. It claims nothing of a text that isn't
--- told.
-abbrev pub OnRun : List (List ℕ) → Option (List ℕ) → (RunAsk → Stream → Type 0) → Type 0
-OnRun words None P = Unit {0}
-OnRun words (Some text) P = (ask : RunAsk) × (s : Stream) × (asked words ≡ Ok (Run ask)) × (verdict text ≡ Ok s) × P ask s
+-- where the words ask for a run, the text is a profile, and this holds of the two
+abbrev pub OnRun : List (List ℕ) → Option (List ℕ) → (RunAsk → List Stream → Type 0) → Type 0
+OnRun words text P = (ask : RunAsk) → asked words ≡ Ok (Run ask) → OnProfile text (P ask)
 
--- where the words ask for a run and the text is a profile, this holds of the two
-abbrev pub IfRun : List (List ℕ) → Option (List ℕ) → (RunAsk → Stream → Type 0) → Type 0
-IfRun words None P = Unit {0}
-IfRun words (Some text) P = (ask : RunAsk) (s : Stream) → asked words ≡ Ok (Run ask) → verdict text ≡ Ok s → P ask s
+-- the words ask for a run, the text is a profile, and this holds of the two
+abbrev pub OnlyRun : List (List ℕ) → Option (List ℕ) → (RunAsk → List Stream → Type 0) → Type 0
+OnlyRun words text P = (ask : RunAsk) × (asked words ≡ Ok (Run ask)) × OnProfile text (P ask)
 
--- the words ask for a run and the text is refused, and then this holds of the refusal
-abbrev pub OnRefusal : List (List ℕ) → Option (List ℕ) → (Refusal → Type 0) → Type 0
-OnRefusal words None P = Unit {0}
-OnRefusal words (Some text) P = (ask : RunAsk) × (r : Refusal) × (asked words ≡ Ok (Run ask)) × (verdict text ≡ Err r) × P r
+-- where the words ask for a check, the text is a profile, and this holds of it
+abbrev pub OnCheck : List (List ℕ) → Option (List ℕ) → (List Stream → Type 0) → Type 0
+OnCheck words text P = asked words ≡ Ok Check → OnProfile text P
 
--- where the words ask for a run and the text is refused, this holds of the refusal
-abbrev pub IfRefusal : List (List ℕ) → Option (List ℕ) → (Refusal → Type 0) → Type 0
+-- where the words have a meaning and the text is a profile, this holds
+abbrev pub IfProfile : List (List ℕ) → Option (List ℕ) → Type 0 → Type 0
+IfProfile words None P = Unit {0}
+IfProfile words (Some text) P = (ask : Asked) (p : List Stream) → asked words ≡ Ok ask → verdict text ≡ Ok p → P
+
+-- where the words have a meaning and the text is refused, this holds
+abbrev pub IfRefusal : List (List ℕ) → Option (List ℕ) → Type 0 → Type 0
 IfRefusal words None P = Unit {0}
-IfRefusal words (Some text) P = (ask : RunAsk) (r : Refusal) → asked words ≡ Ok (Run ask) → verdict text ≡ Err r → P r
+IfRefusal words (Some text) P = (ask : Asked) (r : Refusal) → asked words ≡ Ok ask → verdict text ≡ Err r → P
 
 -- A line on whose failing nothing hangs: a prefix of it was written, the whole where the count of faults didn't rise.
 pub record Tells {K : Type 0} (held : K → Option (List ℕ)) (faults : K → ℕ) (old new : K) (line : List ℕ) : Type 0 where
@@ -75,7 +74,7 @@ MaySucceed OutFault = ⊥
 MaySucceed NotesFault = ⊥
 MaySucceed Memory = Unit {0}
 
--- the statuses that come before anything is written to the capture
+-- the statuses that come before anything is written to the output
 abbrev pub WritesNothing : Status → Type 0
 WritesNothing Done = ⊥
 WritesNothing Usage = Unit {0}

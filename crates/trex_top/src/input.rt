@@ -1,10 +1,12 @@
 ghost use Rattle.std.specs.Prelude.{◌≡◌, IfOk, IfErr, Ok, OnOk};
 ghost use Rattle.std.specs.Io.KnownBytes.{IsAtEnd};
-ghost use Rattle.trex_top.specs.Clauses.{HasVerdict, ReadingStops};
+ghost use Rattle.trex_top.specs.Clauses.{HasVerdict};
+ghost use Rattle.trex_top.specs.Making.{ReadingStops};
 
 use std::alloc::Global;
 use trex_io::{ReadAll, Source, read_all};
-use trex_json::{LONGEST_TEXT, Profile, ProfileFault, Refusal, Rule, read_profile};
+use trex_json::{LONGEST_TEXT, ProfileFault, read_profile};
+use trex_profile::{Profile, Refusal, Rule};
 
 /// Why the input gave no profile.
 pub(crate) enum ReadingStop {

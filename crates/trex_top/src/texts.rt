@@ -1,11 +1,13 @@
-ghost use Rattle.std.specs.Prelude.{◌≡◌};
+ghost use Rattle.std.specs.Prelude.{◌≡◌, ◌≤◌, length, sum_by};
+ghost use Rattle.std.specs.List.{flat_map};
 ghost use Rattle.trex_io.specs.Texts.{Writes};
-ghost use Rattle.trex_top.specs.Texts.{report_text, rule_name, line_text};
+ghost use Rattle.trex_top.specs.Texts.{tally_line, total_line, report_text, accepted_line, placed_line, missing_line, usage_line, refusal_line, line_text};
 
-use crate::words::Usage;
+use crate::names::{option_name, rule_name};
 use itoa::Buffer;
 use trex_io::{Failed, Sink, write_all, write_pieces};
-use trex_json::{Refusal, Rule};
+use trex_profile::Refusal;
+use trex_words::Usage;
 
 /// How many packets of a stream were sent, and of how many bytes, record headers not counted.
 #[derive(Clone, Copy, Debug, PartialEq, Eq)]
@@ -25,80 +27,146 @@ pub(crate) enum Line {
     OutOfMemory,
 }
 
-/// Writes the report: a line for the stream, and one for all.
-#[tactic(auto, unfolding(crate::specs::Texts::report_text))]
-pub(crate) fn write_report<N: Sink>(to: &mut N, tally: &Tally) -> Result<(), Failed>
-    ensures { Writes N.held N.faults to.old to.new result (report_text tally.now) }
+/// Writes what was sent of a stream.
+#[tactic(auto, unfolding(crate::specs::Texts::tally_line))]
+fn write_tally<N: Sink>(to: &mut N, tally: &Tally) -> Result<(), Failed>
+    ensures { Writes N.held N.faults to.old to.new result (tally_line tally.now) }
 {
     let mut id = Buffer::new();
     let mut packets = Buffer::new();
     let mut bytes = Buffer::new();
-    let packets = packets.format(tally.packets).as_bytes();
-    let bytes = bytes.format(tally.bytes).as_bytes();
     write_pieces(
         to,
         &[
             b"stream ",
             id.format(tally.id).as_bytes(),
             b" packets ",
-            packets,
+            packets.format(tally.packets).as_bytes(),
             b" bytes ",
-            bytes,
-            b"\n",
-            b"total",
-            b" packets ",
-            packets,
-            b" bytes ",
-            bytes,
+            bytes.format(tally.bytes).as_bytes(),
             b"\n",
         ],
     )
 }
 
-/// A rule, as it is printed.
-fn rule_name(rule: Rule) -> &'static str
-    ensures { result.now ≡ rule_name rule }
+/// How many packets were sent in all.
+fn packets_of(tallies: &[Tally]) -> u128
+    ensures { result ≡ sum_by (λ t. t.packets) tallies.now }
 {
-    match rule {
-        Rule::TooLong => "TooLong",
-        Rule::NotJson => "NotJson",
-        Rule::Unbuilt => "Unbuilt",
-    }
+    tallies.iter().map(|t| u128::from(t.packets)).sum()
 }
 
-/// Writes that a word is no option.
-#[tactic(auto, unfolding(crate::specs::Texts::line_text))]
-fn write_unknown_option<N: Sink>(to: &mut N, at: usize) -> Result<(), Failed>
-    ensures { Writes N.held N.faults to.old to.new result (line_text (Line.Usage (Usage.UnknownOption at))) }
+/// How many bytes were sent in all.
+fn bytes_of(tallies: &[Tally]) -> u128
+    ensures { result ≡ sum_by (λ t. t.bytes) tallies.now }
 {
-    let mut number = Buffer::new();
+    tallies.iter().map(|t| u128::from(t.bytes)).sum()
+}
+
+/// Writes what was sent in all.
+#[tactic(auto, unfolding(crate::specs::Texts::total_line))]
+fn write_total<N: Sink>(to: &mut N, packets: u128, bytes: u128) -> Result<(), Failed>
+    ensures { Writes N.held N.faults to.old to.new result (total_line packets bytes) }
+{
+    let mut all_packets = Buffer::new();
+    let mut all_bytes = Buffer::new();
     write_pieces(
         to,
         &[
-            b"usage: UnknownOption",
-            b" at ",
-            number.format(at).as_bytes(),
+            b"total",
+            b" packets ",
+            all_packets.format(packets).as_bytes(),
+            b" bytes ",
+            all_bytes.format(bytes).as_bytes(),
             b"\n",
         ],
     )
 }
 
+/// Writes a line for each stream.
+fn write_tallies<N: Sink>(to: &mut N, tallies: &[Tally]) -> Result<(), Failed>
+    ensures { Writes N.held N.faults to.old to.new result (flat_map tally_line tallies.now) }
+{
+    for tally in tallies {
+        if let Err(failed) = write_tally(to, tally) {
+            return Err(failed);
+        }
+    }
+    Ok(())
+}
+
+/// Writes the report: a line for each stream, and one for all.
+pub(crate) fn write_report<N: Sink>(to: &mut N, tallies: &[Tally]) -> Result<(), Failed>
+    ensures { Writes N.held N.faults to.old to.new result (report_text tallies.now) }
+{
+    if let Err(failed) = write_tallies(to, tallies) {
+        return Err(failed);
+    }
+    write_total(to, packets_of(tallies), bytes_of(tallies))
+}
+
+/// Writes that a profile keeps all rules.
+#[tactic(auto, unfolding(crate::specs::Texts::accepted_line))]
+pub(crate) fn write_accepted<O: Sink>(to: &mut O, streams: usize) -> Result<(), Failed>
+    ensures { Writes O.held O.faults to.old to.new result (accepted_line streams) }
+{
+    let mut count = Buffer::new();
+    write_pieces(
+        to,
+        &[
+            b"accepted streams ",
+            count.format(streams).as_bytes(),
+            b"\n",
+        ],
+    )
+}
+
+/// Writes a fault of the words at a place.
+#[tactic(auto, unfolding(crate::specs::Texts::placed_line))]
+fn write_placed<N: Sink>(to: &mut N, name: &str, at: usize) -> Result<(), Failed>
+    ensures { Writes N.held N.faults to.old to.new result (placed_line name.now at) }
+{
+    let mut place = Buffer::new();
+    write_pieces(
+        to,
+        &[
+            b"usage: ",
+            name.as_bytes(),
+            b" at ",
+            place.format(at).as_bytes(),
+            b"\n",
+        ],
+    )
+}
+
+/// Writes which option is missing.
+#[tactic(auto, unfolding(crate::specs::Texts::missing_line))]
+fn write_missing<N: Sink>(to: &mut N, option: &str) -> Result<(), Failed>
+    ensures { Writes N.held N.faults to.old to.new result (missing_line option.now) }
+{
+    write_pieces(to, &[b"usage: Missing option --", option.as_bytes(), b"\n"])
+}
+
 /// Writes what is wrong with the words.
-#[tactic(auto, unfolding(crate::specs::Texts::line_text))]
 fn write_usage<N: Sink>(to: &mut N, usage: Usage) -> Result<(), Failed>
-    ensures { Writes N.held N.faults to.old to.new result (line_text (Line.Usage usage)) }
+    ensures { Writes N.held N.faults to.old to.new result (usage_line usage) }
 {
     match usage {
-        Usage::NoCommand => write_pieces(to, &[b"usage: NoCommand", b"\n"]),
-        Usage::UnknownCommand => write_pieces(to, &[b"usage: UnknownCommand", b"\n"]),
-        Usage::UnknownOption { at } => write_unknown_option(to, at),
+        Usage::NoCommand => write_all(to, b"usage: NoCommand\n"),
+        Usage::UnknownCommand => write_all(to, b"usage: UnknownCommand\n"),
+        Usage::UnknownOption { at } => write_placed(to, "UnknownOption", at),
+        Usage::Repeated { at } => write_placed(to, "Repeated", at),
+        Usage::NoValue { at } => write_placed(to, "NoValue", at),
+        Usage::BadNumber { at } => write_placed(to, "BadNumber", at),
+        Usage::OutOfRange { at } => write_placed(to, "OutOfRange", at),
+        Usage::Missing { option } => write_missing(to, option_name(option)),
     }
 }
 
 /// Writes why a profile is refused.
-#[tactic(auto, unfolding(crate::specs::Texts::line_text))]
+#[tactic(auto, unfolding(crate::specs::Texts::refusal_line))]
 fn write_refusal<N: Sink>(to: &mut N, refusal: &Refusal) -> Result<(), Failed>
-    ensures { Writes N.held N.faults to.old to.new result (line_text (Line.Refused refusal.now)) }
+    ensures { Writes N.held N.faults to.old to.new result (refusal_line refusal.now) }
 {
     let name = rule_name(refusal.rule).as_bytes();
     let mut stream = Buffer::new();
@@ -122,7 +190,6 @@ fn write_refusal<N: Sink>(to: &mut N, refusal: &Refusal) -> Result<(), Failed>
 }
 
 /// Writes the line of a status.
-#[tactic(auto, unfolding(crate::specs::Texts::line_text))]
 pub(crate) fn write_line<N: Sink>(to: &mut N, line: &Line) -> Result<(), Failed>
     ensures { Writes N.held N.faults to.old to.new result (line_text line.now) }
 {

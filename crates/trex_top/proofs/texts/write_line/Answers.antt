@@ -1,6 +1,4 @@
-use Rattle.trex_top.specs.Texts.{line_text}
 use Rattle.trex_top.proofs.texts.write_line.Goals as goal
 
 pub returns-in-ReadFault : goal.returns-in-ReadFault
-unfolding line_text
 returns-in-ReadFault g c = rw c.in-ReadFault.is c.write_all.ensures

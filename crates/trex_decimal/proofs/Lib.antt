@@ -1,0 +1,5 @@
+pub mod Digits
+pub mod Fronts
+pub mod Numbers
+pub mod Pieces
+pub mod Powers

@@ -1,0 +1,116 @@
+ghost use Rattle.std.specs.Prelude.{◌≤◌};
+
+use super::*;
+use std::test::Fail;
+
+// What `scaled` answers: the value, or where the text stops being a decimal, or neither.
+#[derive(Clone, Copy, Debug, PartialEq)]
+enum Told {
+    Value(u128),
+    Syntax(usize),
+    TooLarge,
+}
+
+fn answer(text: &str, digits: u32) -> Told
+    requires { digits ≤ 9 }
+{
+    match scaled(text, digits) {
+        Ok(value) => Told::Value(value),
+        Err(DecimalFault::Syntax { at }) => Told::Syntax(at),
+        Err(DecimalFault::TooLarge) => Told::TooLarge,
+    }
+}
+
+#[test]
+fn decimals_are_floored_or_refused_where_they_stop(rt: HostRuntime) {
+    for (text, want) in [
+        ("1.", Told::Syntax(2)),
+        ("1e21", Told::Syntax(3)),
+        ("1e20", Told::Value(100_000_000_000_000_000_000)),
+        ("", Told::Syntax(0)),
+        ("-1", Told::Syntax(0)),
+        ("1e+", Told::Syntax(3)),
+        ("1e-20", Told::Value(0)),
+        ("29e-1", Told::Value(2)),
+        (
+            "123456789012345678901234567890.123456",
+            Told::Value(123_456_789_012_345_678_901_234_567_890),
+        ),
+        ("1234567890123456789012345678901234567", Told::Syntax(36)),
+        ("123456789012345678901234567890123456.", Told::Syntax(36)),
+        ("123456789012345678901234567890.1234567", Told::Syntax(37)),
+        ("1000000000000000000000000000000", Told::TooLarge),
+        (
+            "999999999999999999999999999999.9",
+            Told::Value(999_999_999_999_999_999_999_999_999_999),
+        ),
+    ] {
+        assert_eq!(rt; answer(text, 0), want, "{text}");
+    }
+}
+
+#[test]
+fn decimals_are_scaled(rt: HostRuntime) {
+    assert_eq!(rt; answer("1e+06", 6), Told::Value(1_000_000_000_000));
+    assert_eq!(rt; answer("0.0009", 3), Told::Value(0));
+    assert_eq!(rt; answer("12.5", 3), Told::Value(12_500));
+    assert_eq!(rt;
+        answer("1e20", 9),
+        Told::Value(100_000_000_000_000_000_000_000_000_000)
+    );
+    assert_eq!(rt; answer("10e20", 9), Told::TooLarge);
+}
+
+#[test]
+fn whole_and_signed_numbers_end_where_their_types_do(rt: HostRuntime) {
+    for (text, as_whole, as_signed) in [
+        (
+            "18446744073709551615",
+            Some(18_446_744_073_709_551_615),
+            None,
+        ),
+        ("18446744073709551616", None, None),
+        (
+            "9223372036854775807",
+            Some(9_223_372_036_854_775_807),
+            Some(9_223_372_036_854_775_807),
+        ),
+        ("9223372036854775808", Some(9_223_372_036_854_775_808), None),
+        (
+            "-9223372036854775808",
+            None,
+            Some(-9_223_372_036_854_775_808),
+        ),
+        ("-9223372036854775809", None, None),
+        ("007", Some(7), Some(7)),
+        ("-0", None, Some(0)),
+        ("+5", None, None),
+        ("-", None, None),
+        ("", None, None),
+        ("1.0", None, None),
+    ] {
+        assert_eq!(rt; whole(text), as_whole, "{text}");
+        assert_eq!(rt; signed(text), as_signed, "{text}");
+    }
+}
+
+#[test]
+fn numbers_outside_texts_are_quoted(rt: HostRuntime) -> Result<(), Fail> {
+    for (text, want) in [
+        ("", ""),
+        ("[5,-1.5e+3]", "[\"5\",\"-1.5e+3\"]"),
+        ("{\"a\":1}", "{\"a\":\"1\"}"),
+        ("\"1\\\"2\"3", "\"1\\\"2\"\"3\""),
+        ("\"\\\\\"3", "\"\\\\\"\"3\""),
+        ("\"1", "\"1"),
+        ("1e999 true.5", "\"1e999\" true.\"5\""),
+        ("{7:null}", "{\"7\":null}"),
+    ] {
+        assert_eq!(rt;
+            quote_numbers(rt.alloc(), text.as_bytes())?.as_slice(),
+            want.as_bytes(),
+            "{text}"
+        );
+    }
+    Ok(())
+}

@@ -1,0 +1,96 @@
+-- The kinds of values that a profile's names have (own).
+use Rattle.std.specs.Prelude.{ℕ, ◌≤◌, ◌^◌, nat_le, bytes_eq, ℤ, pos, negsuc, zero, suc, codes, List, [], ◌∷◌, Option, None, Some, option_map, option_and_then, Result, Ok, Err, if◌then◌else◌}
+use Rattle.base64.specs.Engines.{standard}
+use Rattle.base64.specs.GeneralPurpose.{decoded_of}
+use Rattle.serde_json.specs.Data.{Data, null, boolean, number, string, array, object}
+use Rattle.serde_json.specs.Find.{as_str, as_array}
+use Rattle.trex_decimal.specs.Decimal.{whole_of, signed_of, scaled_of}
+use Rattle.trex_decimal.specs.declared.decimal.DecimalFault.{DecimalFault}
+use Rattle.trex_profile.specs.declared.raw.RateKind.{RateKind}
+use Rattle.trex_profile.specs.declared.raw.RateKind.TheVariants.{Pps, BpsL1, BpsL2}
+use Rattle.trex_json.specs.declared.kinds.ModeWord.{ModeWord}
+use Rattle.trex_json.specs.declared.kinds.ModeWord.TheVariants.{Continuous, SingleBurst, MultiBurst}
+use Rattle.trex_json.specs.Json.{list_of}
+
+-- an object
+abbrev pub an_object : Data → Option Data
+an_object null = None
+an_object (boolean b) = None
+an_object (number n) = None
+an_object (string s) = None
+an_object (array ds) = None
+an_object (object ms) = Some (object ms)
+
+-- the items of an array
+abbrev pub an_array : Data → Option (List Data)
+an_array d = option_map list_of (as_array d)
+
+-- a number, where it is no greater than this one
+abbrev pub at_most : ℕ → ℕ → Option ℕ
+at_most greatest n = if nat_le n greatest then Some n else None
+
+-- a whole number from 0 to the greatest
+abbrev pub whole : ℕ → Data → Option ℕ
+whole greatest d = option_and_then (at_most greatest) (option_and_then whole_of (as_str d))
+
+-- the value of a decimal that was read
+abbrev pub read_value : Result ℕ DecimalFault → Option ℕ
+read_value (Ok n) = Some n
+read_value (Err fault) = None
+
+-- a decimal times 10 to the power of digits, floored
+abbrev pub scaled : ℕ → Data → Option ℕ
+scaled digits d = option_and_then (λ text. read_value (scaled_of text digits)) (as_str d)
+
+-- such a decimal, where its scaled value is no greater than this one
+abbrev pub decimal : ℕ → ℕ → Data → Option ℕ
+decimal digits greatest d = option_and_then (at_most greatest) (scaled digits d)
+
+-- the id of a stream as a signed number gives it: none for -1, else from 0 to 2147483647
+abbrev pub id_of : ℤ → Option (Option ℕ)
+id_of (pos n) = if nat_le n 2147483647 then Some (Some n) else None
+id_of (negsuc zero) = Some None
+id_of (negsuc (suc n)) = None
+
+-- the id of the next stream, or none
+abbrev pub next_id : Data → Option (Option ℕ)
+next_id d = option_and_then id_of (option_and_then signed_of (as_str d))
+
+-- the word of a mode
+abbrev pub mode_of_word : List ℕ → Option ModeWord
+mode_of_word word =
+    if bytes_eq word (codes "continuous") then Some Continuous
+    else if bytes_eq word (codes "single_burst") then Some SingleBurst
+    else if bytes_eq word (codes "multi_burst") then Some MultiBurst
+    else None
+
+abbrev pub mode_word : Data → Option ModeWord
+mode_word d = option_and_then mode_of_word (as_str d)
+
+-- the word of what a rate counts
+abbrev pub rate_of_word : List ℕ → Option RateKind
+rate_of_word word =
+    if bytes_eq word (codes "pps") then Some Pps
+    else if bytes_eq word (codes "bps_L1") then Some BpsL1
+    else if bytes_eq word (codes "bps_L2") then Some BpsL2
+    else None
+
+abbrev pub rate_kind : Data → Option RateKind
+rate_kind d = option_and_then rate_of_word (as_str d)
+
+-- the word of the one kind of flow
+abbrev pub latency_word : Data → Option (List ℕ)
+latency_word d = option_and_then (λ word. if bytes_eq word (codes "latency") then Some word else None) (as_str d)
+
+-- an array of bytes, each a whole number from 0 to 255
+abbrev pub bytes_of : List Data → Option (List ℕ)
+bytes_of [] = Some []
+bytes_of (d ∷ ds) = option_and_then (λ b. option_map (λ bs. b ∷ bs) (bytes_of ds)) (whole 255 d)
+
+-- bytes as a base64 text (RFC 4648, section 4), or else as an array of bytes
+abbrev pub bytes_by : Option (List ℕ) → Option (List Data) → Option (List ℕ)
+bytes_by (Some text) items = decoded_of standard text
+bytes_by None items = option_and_then bytes_of items
+
+abbrev pub bytes : Data → Option (List ℕ)
+bytes d = bytes_by (as_str d) (an_array d)

@@ -1,0 +1,37 @@
+-- The rules on the shape of one entry, one a line, in the order in which they are looked at (own).
+use Rattle.std.specs.Prelude.{◌||◌, List, [], ◌∷◌, Option, is_none}
+use Rattle.serde_json.specs.Data.{Data}
+use Rattle.trex_profile.specs.declared.refusal.Breach.{Breach}
+use Rattle.trex_profile.specs.declared.rule.Rule.TheVariants.{BadEntry, BadStreamId, BadStream, BadEnabled, BadSelfStart, BadIsg, BadNext, BadActionCount, BadSeed, BadPacket, Unbuilt, BadBinary, BadMode, BadRate, BadCount, BadIbg, BadFlowStats, BadVm}
+use Rattle.trex_profile.specs.Refusal.{rule}
+use Rattle.trex_json.specs.Kinds.{an_object}
+use Rattle.trex_json.specs.Names.{wrong, value}
+use Rattle.trex_json.specs.Rows as row
+use Rattle.trex_json.specs.Shape.{packet_wrong, unbuilt, rate_wrong, count_wrong, ibg_wrong, flow_wrong, vm_wrong, word_of}
+
+-- the rules on an entry and on its stream
+abbrev pub rules_of : Data → Data → List (Option Breach)
+rules_of entry stream =
+    rule BadEntry (is_none (an_object entry))
+    ∷ rule BadStreamId (wrong row.stream_id entry)
+    ∷ rule BadStream (wrong row.stream entry)
+    ∷ rule BadEnabled (wrong row.enabled stream)
+    ∷ rule BadSelfStart (wrong row.self_start stream)
+    ∷ rule BadIsg (wrong row.isg stream)
+    ∷ rule BadNext (wrong row.next stream)
+    ∷ rule BadActionCount (wrong row.action_count stream)
+    ∷ rule BadSeed (wrong row.seed stream)
+    ∷ rule BadPacket (packet_wrong stream)
+    ∷ rule Unbuilt (unbuilt (value row.packet stream) (value row.next stream) stream)
+    ∷ rule BadBinary (wrong row.binary (value row.packet stream))
+    ∷ rule BadMode (wrong row.mode stream || wrong row.mode_type (value row.mode stream))
+    ∷ rule BadRate (rate_wrong (value row.mode stream))
+    ∷ rule BadCount (count_wrong (word_of stream) (value row.mode stream))
+    ∷ rule BadIbg (ibg_wrong (word_of stream) (value row.mode stream))
+    ∷ rule BadFlowStats (flow_wrong stream)
+    ∷ rule BadVm (vm_wrong stream)
+    ∷ []
+
+-- the same of an entry alone
+abbrev pub shape_rules : Data → List (Option Breach)
+shape_rules entry = rules_of entry (value row.stream entry)

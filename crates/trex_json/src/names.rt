@@ -1,0 +1,105 @@
+ghost use Rattle.std.specs.Prelude.{◌≡◌, ◌≤◌, ◌<◌, ◌^◌, Option, None, Some, IfSome, option_map, map};
+ghost use Rattle.std.specs.Option.{ForSome};
+ghost use Rattle.serde_json.specs.View.{view};
+ghost use Rattle.serde_json.specs.Find.{as_bool};
+ghost use Rattle.trex_json.specs.Kinds.{an_object, an_array, whole, scaled, decimal, next_id, mode_word, rate_kind, latency_word};
+ghost use Rattle.trex_json.specs.Names.{under, asked};
+
+use crate::kinds::{self, ModeWord};
+use serde_json::Value;
+use trex_profile::RateKind;
+
+/// What stands under a name of an object. A null counts as absent.
+pub(crate) fn under<'v>(object: &'v Value, name: &str) -> Option<&'v Value>
+    ensures { option_map (λ v. view v.now) result ≡ under name.now (view object.now) }
+{
+    match object.get(name) {
+        None | Some(Value::Null) => None,
+        Some(value) => Some(value),
+    }
+}
+
+/// The object under a name.
+pub(crate) fn object_told<'v>(object: &'v Value, name: &str) -> Option<&'v Value>
+    ensures { option_map (λ v. view v.now) result ≡ asked name.now an_object None (view object.now) }
+{
+    kinds::an_object(under(object, name)?)
+}
+
+/// The Bool under a name, or the default.
+pub(crate) fn bool_told(object: &Value, name: &str, default: bool) -> Option<bool>
+    ensures { result ≡ asked name.now as_bool (Some default) (view object.now) }
+{
+    match under(object, name) {
+        None => Some(default),
+        Some(value) => value.as_bool(),
+    }
+}
+
+/// The whole number under a name, from 0 to the greatest, or the default.
+pub(crate) fn whole_told(
+    object: &Value,
+    name: &str,
+    greatest: u64,
+    default: Option<u64>,
+) -> Option<u64>
+    requires { ForSome default (λ n. n ≤ greatest) }
+    ensures value { result ≡ asked name.now (whole greatest) default (view object.now) }
+    ensures within { IfSome result (λ n. n ≤ greatest) }
+{
+    match under(object, name) {
+        None => default,
+        Some(value) => kinds::whole(value, greatest),
+    }
+}
+
+/// The decimal of microseconds under a name, in nanoseconds from 0 to the greatest, or 0.
+pub(crate) fn gap_told(object: &Value, name: &str, greatest: u64) -> Option<u64>
+    ensures value { result ≡ asked name.now (decimal 3 greatest) (Some 0) (view object.now) }
+    ensures within { IfSome result (λ n. n ≤ greatest) }
+{
+    match under(object, name) {
+        None => Some(0),
+        Some(value) => kinds::decimal(value, 3, greatest),
+    }
+}
+
+/// The id of the next stream under a name, none where it is absent.
+pub(crate) fn next_told(object: &Value, name: &str) -> Option<Option<u32>>
+    ensures value { result ≡ asked name.now next_id (Some None) (view object.now) }
+    ensures within { IfSome result (λ next. ForSome next (λ id. id ≤ 2147483647)) }
+{
+    match under(object, name) {
+        None => Some(None),
+        Some(value) => kinds::next_id(value),
+    }
+}
+
+/// The word of a mode under a name.
+pub(crate) fn mode_told(object: &Value, name: &str) -> Option<ModeWord>
+    ensures { result ≡ asked name.now mode_word None (view object.now) }
+{
+    kinds::mode_word(under(object, name)?)
+}
+
+/// What a rate counts, under a name.
+pub(crate) fn rate_told(object: &Value, name: &str) -> Option<RateKind>
+    ensures { result ≡ asked name.now rate_kind None (view object.now) }
+{
+    kinds::rate_kind(under(object, name)?)
+}
+
+/// The decimal of a rate under a name, in millionths, below 10^30.
+pub(crate) fn millionths_told(object: &Value, name: &str) -> Option<u128>
+    ensures value { result ≡ asked name.now (scaled 6) None (view object.now) }
+    ensures within { IfSome result (λ n. n < 10 ^ 30) }
+{
+    kinds::scaled(under(object, name)?, 6)
+}
+
+/// The word of the one kind of flow under a name.
+pub(crate) fn latency_told<'v>(object: &'v Value, name: &str) -> Option<&'v str>
+    ensures { option_map (λ word. word.now) result ≡ asked name.now latency_word None (view object.now) }
+{
+    kinds::latency_word(under(object, name)?)
+}

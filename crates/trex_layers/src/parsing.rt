@@ -1,0 +1,181 @@
+// Which headers a packet's bytes hold.
+
+ghost use Rattle.std.specs.Prelude.{◌≡◌, ◌+◌, ◌^◌, ◌<◌, ◌≤◌, ℕ, length, IfSome};
+ghost use Rattle.trex_layers.specs.Layers.{BeginBelow, behind_tags, end_of, has_bytes, ipv4_of, is_tagged, layers_over, network_of, parsed, tags_of, transport_of, word_at};
+
+use crate::places::{Ipv4Place, L4Place, Layers};
+
+const ETHERNET_LEN: usize = 14;
+
+const TAG_LEN: usize = 4;
+
+const IPV4_LEAST: usize = 20;
+
+const TCP_LEN: usize = 20;
+
+const UDP_LEN: usize = 8;
+
+const TYPE_VLAN: u16 = 0x8100;
+
+const TYPE_IPV4: u16 = 0x0800;
+
+const PROTOCOL_TCP: u8 = 6;
+
+const PROTOCOL_UDP: u8 = 17;
+
+/// The headers of a packet: Ethernet from 14 bytes on, two tags at most, IPv4, and TCP or UDP.
+pub fn parse(bytes: &[u8]) -> Layers
+    ensures value { result ≡ parsed bytes.now }
+    ensures within { (bound : ℕ) → length bytes.now ≤ bound → BeginBelow bound result }
+{
+    if bytes.len() < ETHERNET_LEN {
+        return Layers {
+            ethernet: false,
+            tags: 0,
+            ip: None,
+            l4: None,
+            rest: 0,
+        };
+    }
+    let tags = tags_in(bytes);
+    match network(bytes, tags) {
+        None => Layers {
+            ethernet: true,
+            tags,
+            ip: None,
+            l4: None,
+            rest: behind(tags),
+        },
+        Some(ip) => over_ipv4(bytes, tags, ip),
+    }
+}
+
+/// The IPv4 header at a place. None exactly where 20 bytes aren't there from `at` on, the first nibble isn't 4, the header's length
+/// is below 5 words, or the whole header isn't there (RFC 791, section 3.1).
+pub fn ipv4_at(bytes: &[u8], at: usize) -> Option<Ipv4Place>
+    ensures value { result ≡ ipv4_of bytes.now at }
+    ensures within { IfSome result (λ ip. ip.at + ip.header ≤ length bytes.now) }
+{
+    if !reaches(bytes, at, IPV4_LEAST) {
+        return None;
+    }
+    let first = bytes[at];
+    let header = usize::from(first % 16) * 4;
+    if first / 16 != 4 || header < IPV4_LEAST || !reaches(bytes, at, header) {
+        return None;
+    }
+    Some(Ipv4Place {
+        at,
+        header,
+        protocol: bytes[at + 9],
+    })
+}
+
+// So many bytes are there from `at` on.
+fn reaches(bytes: &[u8], at: usize, count: usize) -> bool
+    ensures { result ≡ has_bytes bytes.now at count }
+{
+    at <= bytes.len() && count <= bytes.len() - at
+}
+
+// The 16-bit number at a place, in network byte order.
+fn word(bytes: &[u8], at: usize) -> u16
+    requires { at + 2 ≤ length bytes.now }
+    ensures { result ≡ word_at bytes.now at }
+{
+    u16::from(bytes[at]) * 256 + u16::from(bytes[at + 1])
+}
+
+// The number of tags behind the Ethernet header.
+fn tags_in(bytes: &[u8]) -> u8
+    requires { 14 ≤ length bytes.now }
+    ensures { result ≡ tags_of bytes.now }
+{
+    if !has_tag(bytes, 0) {
+        return 0;
+    }
+    if has_tag(bytes, 1) { 2 } else { 1 }
+}
+
+// Behind so many tags a further one follows: the type is 0x8100, and 4 more bytes are there.
+fn has_tag(bytes: &[u8], tags: u8) -> bool
+    requires few { tags < 2 }
+    requires room { behind_tags tags ≤ length bytes.now }
+    ensures { result ≡ is_tagged bytes.now tags }
+{
+    let behind = behind(tags);
+    word(bytes, behind - 2) == TYPE_VLAN && reaches(bytes, behind, TAG_LEN)
+}
+
+// The place behind the Ethernet header and so many tags.
+fn behind(tags: u8) -> usize
+    requires { tags ≤ 2 }
+    ensures { result ≡ behind_tags tags }
+{
+    ETHERNET_LEN + TAG_LEN * usize::from(tags)
+}
+
+// The IPv4 header behind so many tags, where the last type is 0x0800.
+fn network(bytes: &[u8], tags: u8) -> Option<Ipv4Place>
+    requires few { tags ≤ 2 }
+    requires room { behind_tags tags ≤ length bytes.now }
+    ensures value { result ≡ network_of bytes.now tags }
+    ensures within { IfSome result (λ ip. ip.at + ip.header ≤ length bytes.now) }
+{
+    let behind = behind(tags);
+    if word(bytes, behind - 2) == TYPE_IPV4 {
+        ipv4_at(bytes, behind)
+    } else {
+        None
+    }
+}
+
+// The header behind an IPv4 header: TCP with 20 bytes, or UDP with 8.
+fn transport(bytes: &[u8], ip: &Ipv4Place) -> Option<L4Place>
+    requires { ip.now.at + ip.now.header ≤ length bytes.now }
+    ensures value { result ≡ transport_of bytes.now ip.now }
+    ensures within { IfSome result (λ l4. end_of l4 ≤ length bytes.now) }
+{
+    let at = ip.at + ip.header;
+    if ip.protocol == PROTOCOL_TCP && reaches(bytes, at, TCP_LEN) {
+        return Some(L4Place::Tcp { at });
+    }
+    if ip.protocol == PROTOCOL_UDP && reaches(bytes, at, UDP_LEN) {
+        return Some(L4Place::Udp { at });
+    }
+    None
+}
+
+// The headers of a packet with so many tags and an IPv4 header.
+fn over_ipv4(bytes: &[u8], tags: u8, ip: Ipv4Place) -> Layers
+    requires { ip.at + ip.header ≤ length bytes.now }
+    ensures { result ≡ layers_over bytes.now tags (Some ip) }
+{
+    match transport(bytes, &ip) {
+        None => Layers {
+            ethernet: true,
+            tags,
+            ip: Some(ip),
+            l4: None,
+            rest: ip.at + ip.header,
+        },
+        Some(l4) => Layers {
+            ethernet: true,
+            tags,
+            ip: Some(ip),
+            l4: Some(l4),
+            rest: end_behind(&l4),
+        },
+    }
+}
+
+// The first byte behind a TCP or UDP header.
+fn end_behind(l4: &L4Place) -> usize
+    requires { end_of l4.now < 2 ^ 64 }
+    ensures { result ≡ end_of l4.now }
+{
+    match *l4 {
+        L4Place::Tcp { at } => at + TCP_LEN,
+        L4Place::Udp { at } => at + UDP_LEN,
+    }
+}

@@ -1,0 +1,75 @@
+// What packets are ordered by.
+
+ghost use Rattle.std.specs.Prelude.{◌≡◌};
+ghost use Rattle.trex_merge.specs.Order.{is_before as stands_before};
+ghost use Rattle.trex_merge.specs.declared.key.Key.{Key};
+
+/// What a packet is ordered by: its time first, then its stream, then its number.
+#[derive(Clone, Copy, PartialEq, Eq, Debug, Drop)]
+pub struct Key {
+    /// Nanoseconds from the schedule's zero.
+    pub time: u64,
+    /// The stream's position in the profile.
+    pub stream: u32,
+    /// The packet's number in its stream.
+    pub number: u64,
+}
+
+/// A value that is ordered by a key.
+pub trait Keyed {
+    /// The key.
+    ghost key_of: { Self → Key };
+
+    /// The key by which the value is ordered.
+    fn key(&self) -> Key
+        ensures { result ≡ key_of self.now };
+}
+
+impl Keyed for Key {
+    ghost key_of = { λ k. k };
+
+    fn key(&self) -> Key {
+        *self
+    }
+}
+
+/// A packet comes before another: by time, then by stream, then by number.
+pub fn is_before(a: &Key, b: &Key) -> bool
+    ensures { result ≡ stands_before a.now b.now }
+{
+    (a.time, a.stream, a.number) < (b.time, b.stream, b.number)
+}
+
+#[cfg(test)]
+mod tests {
+    use super::*;
+    use crate::{least_goes_first, order_is_unique};
+
+    #[test]
+    fn time_goes_before_stream_and_stream_before_number(rt: HostRuntime) {
+        order_is_unique::<Key>();
+        least_goes_first::<Key>();
+        let rising = [
+            (1, 0, 9),
+            (1, 1, 0),
+            (1, 1, 7),
+            (2, 0, 0),
+            (1_000_000_000_000_000_000, 4_095, 3),
+        ];
+        for (i, a) in rising.iter().enumerate() {
+            for (j, b) in rising.iter().enumerate() {
+                let a = Key {
+                    time: a.0,
+                    stream: a.1,
+                    number: a.2,
+                };
+                let b = Key {
+                    time: b.0,
+                    stream: b.1,
+                    number: b.2,
+                };
+                assert_eq!(rt; is_before(&a, &b), i < j);
+            }
+        }
+    }
+}

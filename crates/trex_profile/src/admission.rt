@@ -1,0 +1,72 @@
+ghost use Rattle.std.specs.Prelude.{◌≡◌, map, All, length, ◌≤◌};
+ghost use Rattle.trex_profile.specs.Admission.{IsRawProfile, Admits, admitted};
+ghost use Rattle.trex_profile.specs.Member.{member_stream};
+ghost use Rattle.trex_profile.specs.Order.{first_each, unless};
+ghost use Rattle.trex_profile.specs.Rules.{value_refusal};
+ghost use Rattle.trex_profile.specs.Stream.{IsRawStream, raw_stream};
+
+use crate::member::Member;
+use crate::profile::Profile;
+use crate::raw::{RawProfile, RawStream};
+use crate::refusal::Refusal;
+use std::alloc::{AllocFailed, Global};
+use trex_io::Memory;
+
+/// Why a profile isn't admitted.
+#[derive(Clone, Copy, Debug, PartialEq, Eq)]
+pub enum AdmitFault {
+    /// The first broken rule on values.
+    Refused(Refusal),
+    /// There was no memory for the profile.
+    Memory,
+}
+
+impl From<Memory> for AdmitFault {
+    ghost use Rattle.trex_profile.specs.declared.admission.AdmitFault.TheVariants.{Memory as OutOfMemory};
+
+    ghost from_gives = { λ _ fault. fault ≡ OutOfMemory };
+
+    fn from(_memory: Memory) -> AdmitFault {
+        AdmitFault::Memory
+    }
+}
+
+impl<T: Drop> From<AllocFailed<T>> for AdmitFault {
+    ghost use Rattle.trex_profile.specs.declared.admission.AdmitFault.TheVariants.{Memory as OutOfMemory};
+
+    ghost from_gives = { λ _ fault. fault ≡ OutOfMemory };
+
+    fn from(_failed: AllocFailed<T>) -> AdmitFault {
+        AdmitFault::Memory
+    }
+}
+
+/// The streams whose values keep the rules, or the first broken rule.
+fn each_stream(alloc: Global, raws: Vec<RawStream>) -> Result<Vec<Member>, AdmitFault>
+    requires { length raws.items ≤ 4096 }
+    ensures { Admits (λ members. map member_stream members.items) result
+        (unless (first_each value_refusal 0 (map raw_stream raws.items)) (map raw_stream raws.items)) }
+{
+    let mut members = Vec::new(alloc);
+    let mut at = 0;
+    for raw in raws {
+        match Member::of(raw) {
+            Ok(member) => members.push(member)?,
+            Err(breach) => return Err(AdmitFault::Refused(breach.in_stream(at))),
+        }
+        at += 1;
+    }
+    Ok(members)
+}
+
+/// Admits a profile, unless a rule on its values is broken: the first one is the refusal.
+pub fn admit(alloc: Global, raw: RawProfile) -> Result<Profile, AdmitFault>
+    requires { IsRawProfile raw }
+    ensures { Admits (λ streams. streams) result (admitted (map raw_stream raw.streams.items)) }
+{
+    let members = each_stream(alloc, raw.streams)?;
+    Ok(Profile::new(alloc, members)?)
+}
+
+#[cfg(test)]
+mod tests;

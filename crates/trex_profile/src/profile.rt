@@ -1,0 +1,83 @@
+use crate::chains::chains_of;
+use crate::member::{Member, StreamSpec};
+use std::alloc::Global;
+use std::marker::Model;
+use trex_io::Memory;
+use trex_sched::ChainSpec;
+
+/// A profile that keeps all rules. Contracts see it as the list of its streams.
+#[derive(Debug, Drop)]
+pub struct Profile {
+    members: Vec<Member>,
+    chains: Vec<ChainSpec>,
+}
+
+impl Model for Profile {
+    ghost use Rattle.std.specs.Prelude.{◌≡◌, ◌≤◌, List, length, map, None};
+    ghost use Rattle.trex_sched.specs.Chain.{chain_of};
+    ghost use Rattle.trex_profile.specs.Admission.{refusal_of};
+    ghost use Rattle.trex_profile.specs.Chains.{chains_of};
+    ghost use Rattle.trex_profile.specs.Member.{member_stream};
+    ghost use Rattle.trex_profile.specs.Stream.{Stream};
+
+    ghost Value = { List Stream };
+
+    ghost view = { λ p. map member_stream p.members.items };
+
+    ghost invariant = { λ p. (refusal_of (map member_stream p.members.items) ≡ None)
+        × (map chain_of p.chains.items ≡ chains_of (map member_stream p.members.items)) };
+}
+
+impl Profile {
+    ghost use Rattle.std.specs.Prelude.{◌≡◌, ◌≤◌, ◌<◌, ◌↔◌, [], length, map, None, IsTrue, IfOk, IsSomeAnd, slice_get};
+    ghost use Rattle.std.specs.List.{AllByRecursion};
+    ghost use Rattle.trex_sched.specs.Chain.{chain_of, IsChain};
+    ghost use Rattle.trex_sched.specs.Walks.{HaveDistinctStreams};
+    ghost use Rattle.trex_profile.specs.Admission.{refusal_of};
+    ghost use Rattle.trex_profile.specs.Chains.{chains_of};
+    ghost use Rattle.trex_profile.specs.Member.{member_stream};
+
+    pub(crate) fn new(alloc: Global, members: Vec<Member>) -> Result<Profile, Memory>
+        requires few { length members.items ≤ 4096 }
+        requires kept { refusal_of (map member_stream members.items) ≡ None }
+        ensures { IfOk result (λ profile. profile ≡ map member_stream members.items) }
+    {
+        let chains = chains_of(alloc, &members)?;
+        Ok(Profile { members, chains })
+    }
+
+    /// The number of streams.
+    pub fn len(&self) -> usize
+        ensures value { result ≡ length self.now }
+        // A profile keeps the rules.
+        ensures kept { refusal_of self.now ≡ None }
+    {
+        self.members.len()
+    }
+
+    /// Whether there are no streams.
+    pub fn is_empty(&self) -> bool
+        ensures { IsTrue result ↔ (self.now ≡ []) }
+    {
+        self.members.is_empty()
+    }
+
+    /// The packets of the stream at a position.
+    pub fn stream(&self, i: usize) -> &StreamSpec
+        requires { i < length self.now }
+        ensures { IsSomeAnd (slice_get self.now i)
+            (λ stream. (result.now.id ≡ stream.id) × (result.now.template.items ≡ stream.template)) }
+    {
+        &self.members[i].spec
+    }
+
+    /// One chain for each stream that starts by itself, in order of position.
+    pub fn chains(&self) -> &[ChainSpec]
+        ensures chains { map chain_of result.now ≡ chains_of self.now }
+        // They can be walked together.
+        ensures walkable { AllByRecursion IsChain (map chain_of result.now) }
+        ensures distinct { HaveDistinctStreams (map chain_of result.now) }
+    {
+        &self.chains
+    }
+}

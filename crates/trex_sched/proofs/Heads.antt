@@ -1,0 +1,313 @@
+-- The heads of some lists: how they change as a list loses its first packet, gets one, or comes anew.
+use Rattle.std.proofs.Common.{◌≡◌, ◌≢◌, ℕ, zero, suc, ◌+◌, ◌<◌, ◌==◌, ◌⊎◌, true, false, cond, List, [], ◌∷◌, ◌++◌, length, get_or, None, Some, refl, sym, ap, ◌∙◌, subst, set, arith, inl, inr, IsTrue}
+use Rattle.std.proofs.Permutation.{every_shuffled}
+use Rattle.std.proofs.lemmas.Bool.Decides.{nat_tests}
+use Rattle.std.proofs.lemmas.List.Sorted.{sum_by-IsPermutation}
+use Rattle.std.proofs.lemmas.List.Sums.{sum_by-cons}
+use Rattle.std.specs.BinaryHeap.{IsUpperBound, lt_by_cmp}
+use Rattle.std.specs.List.{AllByRecursion, slice_get}
+use Rattle.std.specs.List.Sorted.{IsPermutation}
+use Rattle.std.specs.declared.cmp.Reverse.{Reverse}
+use Rattle.trex_merge.specs.Order.{BeginsNotBefore, is_before}
+use Rattle.trex_sched.specs.declared.head.Head.{Head}
+use Rattle.trex_sched.specs.declared.slot.Slot.{Slot}
+use Rattle.trex_sched.specs.Entries.{key_of}
+use Rattle.trex_sched.specs.Heads.{AreHeads, compare_heads, head_of, heads_at, IsHeadIn, least_first}
+
+-- ---- places of a list
+
+-- after a write the other places are as they were
+pub get-set_other : {X : Type 0} (xs : List X) (p q : ℕ) (y : X) → q ≢ p → slice_get (set xs p y) q ≡ slice_get xs q
+get-set_other [] p q y apart = refl
+get-set_other (x ∷ xs) zero zero y apart = absurd (apart refl)
+get-set_other (x ∷ xs) zero (suc q) y apart = refl
+get-set_other (x ∷ xs) (suc p) zero y apart = refl
+get-set_other (x ∷ xs) (suc p) (suc q) y apart = get-set_other xs p q y (λ e. apart (ap suc e))
+
+-- and the place has what was written
+pub get-set_same : {X : Type 0} (xs : List X) (p : ℕ) (x y : X) → slice_get xs p ≡ Some x → slice_get (set xs p y) p ≡ Some y
+get-set_same [] p x y there = absurd cc
+get-set_same (a ∷ xs) zero x y there = refl
+get-set_same (a ∷ xs) (suc p) x y there = get-set_same xs p x y there
+
+-- of two writes to a place the second stays
+pub set-twice : {X : Type 0} (xs : List X) (p : ℕ) (x y : X) → set (set xs p x) p y ≡ set xs p y
+set-twice [] p x y = refl
+set-twice (a ∷ xs) zero x y = refl
+set-twice {X = X} (a ∷ xs) (suc p) x y = ap (λ (l : List X). a ∷ l) (set-twice xs p x y)
+
+-- what a list has at a place it has there in a longer one
+pub get-append : {X : Type 0} (xs ys : List X) (p : ℕ) (x : X) → slice_get xs p ≡ Some x → slice_get (xs ++ ys) p ≡ Some x
+get-append [] ys p x there = absurd cc
+get-append (a ∷ xs) ys zero x there = there
+get-append (a ∷ xs) ys (suc p) x there = get-append xs ys p x there
+
+-- at a place of a list with one element more there is an element of the list, or the one more
+pub get-push : {X : Type 0} (xs : List X) (y : X) (p : ℕ) (x : X) → slice_get (xs ++ y ∷ []) p ≡ Some x → (slice_get xs p ≡ Some x) ⊎ (x ≡ y)
+get-push [] y zero x there = inr cc
+get-push [] y (suc p) x there = absurd cc
+get-push (a ∷ xs) y zero x there = inl there
+get-push (a ∷ xs) y (suc p) x there = get-push xs y p x there
+
+-- the one more stands at the end
+pub get-last : {X : Type 0} (xs : List X) (y : X) → slice_get (xs ++ y ∷ []) (length xs) ≡ Some y
+get-last [] y = refl
+get-last (a ∷ xs) y = get-last xs y
+
+pub set-last : {X : Type 0} (xs : List X) (x y : X) → set (xs ++ x ∷ []) (length xs) y ≡ xs ++ y ∷ []
+set-last [] x y = refl
+set-last {X = X} (a ∷ xs) x y = ap (λ (l : List X). a ∷ l) (set-last xs x y)
+
+-- what holds at each place holds of each element
+pub all_places : {X : Type 0} (P : X → Type 0) (xs : List X) → ((p : ℕ) (x : X) → slice_get xs p ≡ Some x → P x) → AllByRecursion P xs
+all_places P [] each = tt
+all_places P (a ∷ xs) each = (each zero a refl, all_places P xs (λ p x there. each (suc p) x there))
+
+-- ---- how many heads stand for a place
+
+-- one where a head is that of the place
+abbrev pub stands : ℕ → Reverse Head → ℕ
+stands place head = cond (head.0.place == place) 1 0
+
+pub heads_at-cons : (place : ℕ) (head : Reverse Head) (heads : List (Reverse Head)) → heads_at place (head ∷ heads) ≡ stands place head + heads_at place heads
+heads_at-cons place head heads = sum_by-cons (stands place) head heads
+
+pub stands_here : (place : ℕ) (head : Reverse Head) → head.0.place ≡ place → stands place head ≡ 1
+stands_here place head here = grind (arith, nat_tests)
+
+pub stands_elsewhere : (place : ℕ) (head : Reverse Head) → head.0.place ≢ place → stands place head ≡ 0
+stands_elsewhere place head apart = grind (arith, nat_tests)
+
+-- a head is that of the place, or of another
+here_or_not : (a b : ℕ) → (a ≡ b) ⊎ (a ≢ b)
+here_or_not a b = elim (a == b) as (λ t. (a == b) ≡ t → (a ≡ b) ⊎ (a ≢ b)) [
+  | true ↦ λ same. inl (grind (arith, nat_tests))
+  | false ↦ λ other. inr (λ e. grind (arith, nat_tests))
+] refl
+
+-- where a head stands for a place, one of the heads is that of the place
+pub found : (P : Reverse Head → Type 0) (place : ℕ) (heads : List (Reverse Head)) → AllByRecursion P heads → 0 < heads_at place heads
+    → (head : Reverse Head) × (head.0.place ≡ place) × P head
+found P place [] all some = absurd (omega arith)
+found P place (a ∷ heads) all some =
+    elim (here_or_not a.0.place place) [
+      | inl here ↦ (a, here, all.0)
+      | inr other ↦
+          let count = heads_at-cons place a heads in
+          let none = stands_elsewhere place a other in
+          found P place heads all.1 (omega arith)
+    ]
+
+-- ---- heads in another order
+
+pub heads_shuffled : (lists : List (List Slot)) (xs ys : List (Reverse Head)) → IsPermutation xs ys → AreHeads lists xs → AreHeads lists ys
+heads_shuffled lists xs ys moved known =
+    let count = λ (place : ℕ). sum_by-IsPermutation (stands place) xs ys moved in
+    record {
+      each = every_shuffled (λ head. IsHeadIn lists head.0) xs ys moved known.each;
+      once = λ place. let same = count place in let few = known.once place in omega arith;
+      all = λ place slot rest there. let same = count place in let some = known.all place slot rest there in omega arith;
+    }
+
+-- ---- a head goes
+
+-- a head of another place stays one where a list changes
+head-set : (lists : List (List Slot)) (place : ℕ) (list : List Slot) (head : Reverse Head) → head.0.place ≢ place
+    → IsHeadIn lists head.0 → IsHeadIn (set lists place list) head.0
+head-set lists place list head apart mine =
+    record { slot = mine.slot; rest = mine.rest; there = get-set_other lists place head.0.place list apart ∙ mine.there; is = mine.is }
+
+-- so do all, where none stands for the place
+heads-set : (lists : List (List Slot)) (place : ℕ) (list : List Slot) (heads : List (Reverse Head)) → heads_at place heads ≡ 0
+    → AllByRecursion (λ head. IsHeadIn lists head.0) heads → AllByRecursion (λ head. IsHeadIn (set lists place list) head.0) heads
+heads-set lists place list [] none all = tt
+heads-set lists place list (a ∷ heads) none all =
+    let count = heads_at-cons place a heads in
+    let apart : a.0.place ≢ place = λ here. let one = stands_here place a here in omega arith in
+    (head-set lists place list a apart all.0, heads-set lists place list heads (omega arith) all.1)
+
+pub head_goes : (lists : List (List Slot)) (head : Reverse Head) (heads : List (Reverse Head)) → AreHeads lists (head ∷ heads)
+    → AreHeads (set lists head.0.place []) heads
+head_goes lists head heads known =
+    let place = head.0.place in
+    let here = stands_here place head refl in
+    let count = λ (q : ℕ). heads_at-cons q head heads in
+    let none : heads_at place heads ≡ 0 = let c = count place in let few = known.once place in omega arith in
+    record {
+      each = heads-set lists place [] heads none known.each.1;
+      once = λ q. let c = count q in let few = known.once q in omega arith;
+      all = λ q slot rest there.
+          elim (here_or_not q place) [
+            | inl same ↦ absurd (empty_begins lists q slot rest (subst (λ p. slice_get (set lists p []) q ≡ Some (slot ∷ rest)) (sym same) there))
+            | inr apart ↦
+                let c = count q in
+                let zero_here = stands_elsewhere q head (λ e. apart (sym e)) in
+                let some = known.all q slot rest (sym (get-set_other lists place q [] apart) ∙ there) in
+                omega arith
+          ];
+    }
+  where
+    empty_begins : (lists : List (List Slot)) (q : ℕ) (slot : Slot) (rest : List Slot) → slice_get (set lists q []) q ≡ Some (slot ∷ rest) → ⊥
+    empty_begins [] q slot rest there = cc
+    empty_begins (a ∷ lists) zero slot rest there = cc
+    empty_begins (a ∷ lists) (suc q) slot rest there = empty_begins lists q slot rest there
+
+-- ---- a head comes
+
+-- no head stands for a list without a packet
+none_for_empty : (lists : List (List Slot)) (heads : List (Reverse Head)) (place : ℕ) → slice_get lists place ≡ Some [] → AreHeads lists heads
+    → heads_at place heads ≡ 0
+none_for_empty lists heads place empty known =
+    elim (here_or_not (heads_at place heads) 0) [
+      | inl none ↦ none
+      | inr some ↦
+          let one = found (λ head. IsHeadIn lists head.0) place heads known.each (omega arith) in
+          let there = one.2.there in
+          let same : slice_get lists one.0.0.place ≡ slice_get lists place = ap (slice_get lists) one.1 in
+          absurd cc
+    ]
+
+pub head_comes : (lists : List (List Slot)) (heads : List (Reverse Head)) (place : ℕ) (slot : Slot) (rest : List Slot) → slice_get lists place ≡ Some []
+    → AreHeads lists heads → AreHeads (set lists place (slot ∷ rest)) (record { 0 = head_of slot place } ∷ heads)
+head_comes lists heads place slot rest empty known =
+    let head : Reverse Head = record { 0 = head_of slot place } in
+    let none = none_for_empty lists heads place empty known in
+    let here = stands_here place head refl in
+    let count = λ (q : ℕ). heads_at-cons q head heads in
+    record {
+      each = (
+        record { slot = slot; rest = rest; there = get-set_same lists place [] (slot ∷ rest) empty; is = refl },
+        heads-set lists place (slot ∷ rest) heads none known.each,
+      );
+      once = λ q.
+          let c = count q in
+          elim (here_or_not q place) [
+            | inl same ↦ let n = subst (λ p. heads_at p heads ≡ 0) (sym same) none in let h = subst (λ p. stands p head ≡ 1) (sym same) here in omega arith
+            | inr apart ↦ let zero_here = stands_elsewhere q head (λ e. apart (sym e)) in let few = known.once q in omega arith
+          ];
+      all = λ q other more there.
+          let c = count q in
+          elim (here_or_not q place) [
+            | inl same ↦ let h = subst (λ p. stands p head ≡ 1) (sym same) here in omega arith
+            | inr apart ↦ let some = known.all q other more (sym (get-set_other lists place q (slot ∷ rest) apart) ∙ there) in omega arith
+          ];
+    }
+
+-- ---- a list comes
+
+pub list_comes : (lists : List (List Slot)) (heads : List (Reverse Head)) → AreHeads lists heads → AreHeads (lists ++ [] ∷ []) heads
+list_comes lists heads known = record {
+  each = longer heads known.each;
+  once = known.once;
+  all = λ q slot rest there. elim (get-push lists [] q (slot ∷ rest) there) [ inl mine ↦ known.all q slot rest mine | inr empty ↦ absurd cc ];
+}
+  where
+    longer : (heads : List (Reverse Head)) → AllByRecursion (λ head. IsHeadIn lists head.0) heads → AllByRecursion (λ head. IsHeadIn (lists ++ [] ∷ []) head.0) heads
+    longer [] all = tt
+    longer (a ∷ heads) all = (record { slot = all.0.slot; rest = all.0.rest; there = get-append lists ([] ∷ []) a.0.place (all.0.slot ∷ all.0.rest) all.0.there; is = all.0.is }, longer heads all.1)
+
+-- ---- no head, and the least one
+
+pub all_empty : (lists : List (List Slot)) → AreHeads lists [] → AllByRecursion (λ list. list ≡ []) lists
+all_empty lists known = all_places (λ list. list ≡ []) lists (λ p list there. is_empty p list there)
+  where
+    is_empty : (p : ℕ) (list : List Slot) → slice_get lists p ≡ Some list → list ≡ []
+    is_empty p [] there = refl
+    is_empty p (slot ∷ rest) there = let some = known.all p slot rest there in absurd (omega arith)
+
+-- what comes before in the order is the less of two heads
+before_is_less : (a b : Slot) (p q : ℕ) → IsTrue (is_before (key_of a) (key_of b)) → lt_by_cmp compare_heads (head_of a p) (head_of b q) ≡ true
+before_is_less a b p q before = grind (arith, nat_tests)
+
+pub least_head : (lists : List (List Slot)) (head : Reverse Head) (heads : List (Reverse Head)) (slot : Slot) (place : ℕ) → head.0 ≡ head_of slot place
+    → AreHeads lists heads → IsUpperBound least_first head heads → AllByRecursion (BeginsNotBefore key_of slot) lists
+least_head lists head heads slot place is known above = all_places (BeginsNotBefore key_of slot) lists (λ p list there. not_before p list there)
+  where
+    both : (heads : List (Reverse Head)) → AllByRecursion (λ h. IsHeadIn lists h.0) heads → IsUpperBound least_first head heads
+        → AllByRecursion (λ h. IsHeadIn lists h.0 × (lt_by_cmp least_first head h ≡ false)) heads
+    both [] all above = tt
+    both (a ∷ heads) all above = ((all.0, above.0), both heads all.1 above.1)
+
+    not_before : (p : ℕ) (list : List Slot) → slice_get lists p ≡ Some list → BeginsNotBefore key_of slot list
+    not_before p [] there = tt
+    not_before p (first ∷ rest) there = λ before.
+        let one = found (λ h. IsHeadIn lists h.0 × (lt_by_cmp least_first head h ≡ false)) p heads (both heads known.each above) (known.all p first rest there) in
+        let mine = one.2.0 in
+        let same : slice_get lists one.0.0.place ≡ slice_get lists p = ap (slice_get lists) one.1 in
+        let here = mine.there in
+        let first_is : mine.slot ≡ first = cc in
+        let less = before_is_less first slot p place before in
+        let its : one.0.0 ≡ head_of first p = cc in
+        let not_less = one.2.1 in
+        absurd cc
+
+-- ---- what the walks do
+
+-- after a write a place within the list has what was written
+get-set_within : {X : Type 0} (xs : List X) (p : ℕ) (y : X) → p < length xs → slice_get (set xs p y) p ≡ Some y
+get-set_within [] p y within = absurd (omega arith)
+get-set_within (a ∷ xs) zero y within = refl
+get-set_within (a ∷ xs) (suc p) y within = get-set_within xs p y (omega arith)
+
+-- the head of a list that changed is put back
+pub put_back_known : (lists : List (List Slot)) (heads more : List (Reverse Head)) (place : ℕ) (list : List Slot) (next : Slot) → place < length lists
+    → AreHeads (set lists place []) heads → slice_get list 0 ≡ Some next → IsPermutation (record { 0 = head_of next place } ∷ heads) more
+    → AreHeads (set lists place list) more
+put_back_known lists heads more place [] next within known begins moved = absurd cc
+put_back_known lists heads more place (slot ∷ rest) next within known begins moved =
+    let same : next ≡ slot = cc in
+    let step = head_comes (set lists place []) heads place slot rest (get-set_within lists place [] within) known in
+    let moved_slot = subst (λ s. IsPermutation (record { 0 = head_of s place } ∷ heads) more) same moved in
+    heads_shuffled (set lists place (slot ∷ rest)) (record { 0 = head_of slot place } ∷ heads) more moved_slot
+    (subst (λ l. AreHeads l (record { 0 = head_of slot place } ∷ heads)) (set-twice lists place [] (slot ∷ rest)) step)
+
+-- a list without a packet needs no head
+pub no_head_known : (lists : List (List Slot)) (heads : List (Reverse Head)) (place : ℕ) (list : List Slot) → AreHeads (set lists place []) heads
+    → slice_get list 0 ≡ None → AreHeads (set lists place list) heads
+no_head_known lists heads place [] known empty = known
+no_head_known lists heads place (slot ∷ rest) known empty = absurd cc
+
+-- one more list, with its head
+pub list_added : (lists : List (List Slot)) (heads more : List (Reverse Head)) (list : List Slot) (slot : Slot) → AreHeads lists heads
+    → slice_get list 0 ≡ Some slot → IsPermutation (record { 0 = head_of slot (length lists) } ∷ heads) more → AreHeads (lists ++ list ∷ []) more
+list_added lists heads more [] slot known begins moved = absurd cc
+list_added lists heads more (first ∷ rest) slot known begins moved =
+    let same : slot ≡ first = cc in
+    let place = length lists in
+    let step = head_comes (lists ++ [] ∷ []) heads place first rest (get-last lists []) (list_comes lists heads known) in
+    let moved_first = subst (λ s. IsPermutation (record { 0 = head_of s place } ∷ heads) more) same moved in
+    heads_shuffled (lists ++ (first ∷ rest) ∷ []) (record { 0 = head_of first place } ∷ heads) more moved_first
+    (subst (λ l. AreHeads l (record { 0 = head_of first place } ∷ heads)) (set-last lists [] (first ∷ rest)) step)
+
+pub empty_added : (lists : List (List Slot)) (heads : List (Reverse Head)) (list : List Slot) → AreHeads lists heads → slice_get list 0 ≡ None
+    → AreHeads (lists ++ list ∷ []) heads
+empty_added lists heads [] known empty = list_comes lists heads known
+empty_added lists heads (slot ∷ rest) known empty = absurd cc
+
+pub none_known : AreHeads [] []
+none_known = record { each = tt; once = λ place. omega arith; all = λ place slot rest there. absurd cc }
+
+-- ---- the least head, and what it stands for
+
+-- Of lists whose heads are these, the first in order, and what comes after it.
+pub record BeginsAt (lists : List (List Slot)) (place : ℕ) : Type 0 where
+  pub slot : Slot
+  pub rest : List Slot
+  pub there : slice_get lists place ≡ Some (slot ∷ rest)
+  pub least : AllByRecursion (BeginsNotBefore key_of slot) lists
+
+pub begins_at : (lists : List (List Slot)) (head : Reverse Head) (heads : List (Reverse Head)) → AreHeads lists heads
+    → IsHeadIn lists head.0 → IsUpperBound least_first head heads → BeginsAt lists head.0.place
+begins_at lists head heads known mine above =
+    record { slot = mine.slot; rest = mine.rest; there = mine.there; least = least_head lists head heads mine.slot head.0.place mine.is known above }
+
+-- a list without a length has nothing
+pub no_items : {X : Type 0} (xs : List X) → length xs ≡ 0 → xs ≡ []
+no_items [] none = refl
+no_items (x ∷ xs) none = absurd (omega arith)
+
+-- what holds of each element of a list holds of the one at a place
+pub all_at_place : {X : Type 0} (P : X → Type 0) (xs : List X) (place : ℕ) (x : X) → place < length xs → x ≡ get_or xs place x → AllByRecursion P xs → P x
+all_at_place P [] place x within is all = absurd (omega arith)
+all_at_place P (a ∷ rest) zero x within is all = subst P (sym is) all.0
+all_at_place P (a ∷ rest) (suc place) x within is all = all_at_place P rest place x (omega arith) is all.1

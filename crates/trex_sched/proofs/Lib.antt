@@ -1,0 +1,12 @@
+pub mod Periods
+pub mod Offsets
+pub mod Turns
+pub mod Sent
+pub mod Following
+pub mod Reached
+pub mod Coming
+pub mod Pairs
+pub mod Heads
+pub mod Shares
+pub mod Rising
+pub mod Visits

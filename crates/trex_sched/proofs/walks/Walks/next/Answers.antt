@@ -1,0 +1,86 @@
+use Rattle.std.proofs.Common.{◌≡◌, List, [], ◌∷◌, drop, set, get_or, sym, ap, ◌∙◌, subst, arith}
+use Rattle.std.proofs.lemmas.Option.{slice_get_within, get_or_from_slice_get}
+use Rattle.std.specs.BinaryHeap.{heap_items}
+use Rattle.std.specs.List.{AllByRecursion, slice_get}
+use Rattle.trex_merge.specs.Order.{AreDistinct, IsRising, joined, ordered}
+use Rattle.trex_sched.specs.declared.slot.Slot.{Slot}
+use Rattle.trex_sched.specs.Entries.{key_of}
+use Rattle.trex_sched.specs.Heads.{AreHeads}
+use Rattle.trex_sched.proofs.Heads.{all_empty, BeginsAt, begins_at, head_goes, heads_shuffled, no_items}
+use Rattle.trex_sched.proofs.walks.Walks.next.Goals as goal
+
+-- without a head nothing is left
+nothing_left : (c : goal.After-from_residual) → ordered key_of (joined c.self.inside.walks.items) ≡ []
+nothing_left c =
+    let lists = c.self.inside.walks.items in
+    let heads = heap_items c.self.inside.heads in
+    let empty : heads ≡ [] = no_items heads (let len = c.in_err-head.ensures.none in let whole = c.self.inside.heads.data.ok in omega arith) in
+    ap (ordered key_of) (c.least_goes_first.ensures.none lists (all_empty lists (subst (AreHeads lists) empty c.self.invariant.known)))
+
+pub returns-in_err-head-clause-slot : goal.returns-in_err-head-clause-slot
+returns-in_err-head-clause-slot c =
+    c.from_residual.ensures ∙ sym (ap (λ (l : List Slot). slice_get l 0) (sym c.self.view_is ∙ nothing_left c))
+
+pub returns-in_err-head-clause-rest : goal.returns-in_err-head-clause-rest
+returns-in_err-head-clause-rest c = nothing_left c ∙ sym (ap (drop 1) (sym c.self.view_is ∙ nothing_left c))
+
+pub pass-requires-clause-place : goal.pass-requires-clause-place
+pass-requires-clause-place c =
+    let lists = c.self.inside.walks.items in
+    let x = c.in_ok-head.field-0 in
+    let known = heads_shuffled lists _ (x ∷ heap_items c.pop.new.self) c.in_ok-head.ensures.permutation c.self.invariant.known in
+    let within = slice_get_within lists x.0.place _ known.each.0.there in
+    let whole = c.self.inside.walks.ok in
+    omega arith
+
+pub pass-requires-clause-others : goal.pass-requires-clause-others
+pass-requires-clause-others c =
+    let lists = c.self.inside.walks.items in
+    let x = c.in_ok-head.field-0 in
+    let known = heads_shuffled lists _ (x ∷ heap_items c.pop.new.self) c.in_ok-head.ensures.permutation c.self.invariant.known in
+    head_goes lists x (heap_items c.pop.new.self) known
+
+-- the walk that is passed begins with the first packet of all
+least : (c : goal.After-pass) → BeginsAt c.self.inside.walks.items c.in_ok-head.field-0.0.place
+least c =
+    let lists = c.self.inside.walks.items in
+    let heads = heap_items c.self.inside.heads in
+    let x = c.in_ok-head.field-0 in
+    let known = heads_shuffled lists heads (x ∷ heap_items c.pop.new.self) c.in_ok-head.ensures.permutation c.self.invariant.known in
+    begins_at lists x heads c.self.invariant.known known.each.0 (c.in_ok-head.ensures.heap_order c.self.invariant.heap).1
+
+list_is : (c : goal.After-pass) → get_or c.self.inside.walks.items c.in_ok-head.field-0.0.place [] ≡ (least c).slot ∷ (least c).rest
+list_is c =
+    get_or_from_slice_get c.self.inside.walks.items c.in_ok-head.field-0.0.place ((least c).slot ∷ (least c).rest) [] (least c).there
+
+walks_are : (c : goal.After-pass) → c.pass.new.walks.items ≡ set c.self.inside.walks.items c.in_ok-head.field-0.0.place (least c).rest
+walks_are c =
+    c.pass.ensures.walks ∙ ap (λ (l : List Slot). set c.self.inside.walks.items c.in_ok-head.field-0.0.place (drop 1 l)) (list_is c)
+
+now_is : (c : goal.After-pass)
+    → c.args.self.now ≡ (least c).slot ∷ ordered key_of (joined (set c.self.inside.walks.items c.in_ok-head.field-0.0.place (least c).rest))
+now_is c =
+    sym c.self.view_is
+    ∙ c.least_goes_first.ensures.first c.self.inside.walks.items c.in_ok-head.field-0.0.place (least c).slot (least c).rest (least c).there
+    c.self.invariant.rising c.self.invariant.distinct (least c).least
+
+pub invariant_of-self-2 : goal.invariant_of-self-2
+invariant_of-self-2 c =
+    let lists = c.self.inside.walks.items in
+    let place = c.in_ok-head.field-0.0.place in
+    let slot = (least c).slot in
+    let rest = (least c).rest in
+    let laws = c.least_goes_first.ensures in
+    record {
+      rising = subst (AllByRecursion (IsRising key_of)) (sym (walks_are c)) (laws.rising lists place slot rest (least c).there c.self.invariant.rising);
+      distinct = subst (λ (l : List (List Slot)). AreDistinct key_of (joined l)) (sym (walks_are c)) (laws.distinct lists place slot rest (least c).there c.self.invariant.distinct);
+      known = c.pass.ensures.known;
+      heap = c.pass.ensures.heap;
+    }
+
+pub returns-clause-slot : goal.returns-clause-slot
+returns-clause-slot c =
+    c.pass.ensures.slot ∙ ap (λ (l : List Slot). slice_get l 0) (list_is c) ∙ sym (ap (λ (l : List Slot). slice_get l 0) (now_is c))
+
+pub returns-clause-rest : goal.returns-clause-rest
+returns-clause-rest c = ap (λ (l : List (List Slot)). ordered key_of (joined l)) (walks_are c) ∙ sym (ap (drop 1) (now_is c))

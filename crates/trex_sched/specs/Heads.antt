@@ -1,0 +1,48 @@
+-- The heads of some lists of packets: for each list that has a packet, what its first is ordered by and the list's place (own).
+use Rattle.std.specs.Prelude.{◌≡◌, ℕ, ◌<◌, ◌≤◌, ◌==◌, Some, List, ◌∷◌, count_by}
+use Rattle.std.specs.List.{AllByRecursion, slice_get}
+use Rattle.std.specs.BinaryHeap.{IsHeap}
+use Rattle.std.specs.Ordering.{nat_cmp, ordering_then}
+use Rattle.std.specs.declared.cmp.Ordering.{Ordering}
+use Rattle.std.specs.declared.cmp.Reverse.{Reverse}
+use Rattle.trex_sched.specs.declared.head.Head.{Head}
+use Rattle.trex_sched.specs.declared.slot.Slot.{Slot}
+use Rattle.trex_sched.specs.Entries.{key_of}
+use Rattle.trex_merge.specs.Order.{AreDistinct, IsRising, joined}
+
+-- the head of a list at a place that begins with a slot
+abbrev pub head_of : Slot → ℕ → Head
+head_of slot place = record { time = slot.time; stream = slot.stream; number = slot.number; place = place }
+
+-- a head is that of the list at its place
+pub record IsHeadIn (lists : List (List Slot)) (head : Head) : Type 0 where
+  pub slot : Slot
+  pub rest : List Slot
+  pub there : slice_get lists head.place ≡ Some (slot ∷ rest)
+  pub is : head ≡ head_of slot head.place
+
+-- how many heads stand for a place
+abbrev pub heads_at : ℕ → List (Reverse Head) → ℕ
+heads_at place heads = count_by (λ head. head.0.place == place) heads
+
+-- each head is one of the lists', no place has two, and each list that has a packet has its head
+pub record AreHeads (lists : List (List Slot)) (heads : List (Reverse Head)) : Type 0 where
+  pub each : AllByRecursion (λ head. IsHeadIn lists head.0) heads
+  pub once : (place : ℕ) → heads_at place heads ≤ 1
+  pub all : (place : ℕ) (slot : Slot) (rest : List Slot) → slice_get lists place ≡ Some (slot ∷ rest) → 0 < heads_at place heads
+
+-- by time, then by stream, then by number, then by place
+abbrev pub compare_heads : Head → Head → Ordering
+compare_heads a b =
+    ordering_then (nat_cmp a.time b.time) (ordering_then (nat_cmp a.stream b.stream) (ordering_then (nat_cmp a.number b.number) (nat_cmp a.place b.place)))
+
+-- the least is the first
+abbrev pub least_first : Reverse Head → Reverse Head → Ordering
+least_first a b = compare_heads b.0 a.0
+
+-- Lists that rise, with no packet twice, whose heads stand in a heap with the least at its top.
+pub record AreInOrder (lists : List (List Slot)) (heads : List (Reverse Head)) : Type 0 where
+  pub rising : AllByRecursion (IsRising key_of) lists
+  pub distinct : AreDistinct key_of (joined lists)
+  pub known : AreHeads lists heads
+  pub heap : IsHeap least_first heads

@@ -1,0 +1,22 @@
+use crate::{Mode, Period};
+
+/// A stream as a chain visits it.
+#[derive(Clone, Copy, Debug, PartialEq, Eq)]
+pub struct Leg {
+    /// The stream's position in the profile.
+    pub stream: u32,
+    /// The gap before each of its runs, in nanoseconds.
+    pub isg: u64,
+    pub period: Period,
+    pub mode: Mode,
+    /// After so many visits the chain stops; 0 where it doesn't.
+    pub actions: u32,
+}
+
+/// The streams that follow one another from a stream that starts by itself.
+#[derive(Debug, Drop)]
+pub struct ChainSpec {
+    pub legs: Vec<Leg>,
+    /// The place in `legs` that follows the last leg, where one does.
+    pub back: Option<u32>,
+}

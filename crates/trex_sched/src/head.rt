@@ -1,0 +1,27 @@
+ghost use Rattle.std.specs.Prelude.{◌≡◌};
+ghost use Rattle.trex_sched.specs.Heads.{head_of};
+
+use crate::Slot;
+
+/// Where a walk stands: what its next packet is ordered by, and the walk's place among the others.
+#[derive(Clone, Copy, Debug, PartialEq, Eq, PartialOrd, Ord)]
+pub(crate) struct Head {
+    pub(crate) time: u64,
+    pub(crate) stream: u32,
+    pub(crate) number: u64,
+    pub(crate) place: usize,
+}
+
+impl Head {
+    /// The head of the walk at a place whose next packet is the slot.
+    pub(crate) fn new(slot: &Slot, place: usize) -> Head
+        ensures { result ≡ head_of slot.now place }
+    {
+        Head {
+            time: slot.time,
+            stream: slot.stream,
+            number: slot.number,
+            place,
+        }
+    }
+}

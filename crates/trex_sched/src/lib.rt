@@ -1,0 +1,25 @@
+// The schedule: periods, the modes of streams, and the chains in which streams follow one another.
+#![tactic(auto)]
+
+mod chain;
+mod head;
+mod laws;
+mod mode;
+mod period;
+mod run;
+mod slot;
+mod steps;
+#[cfg(test)]
+mod tests;
+mod times;
+mod walk;
+mod walks;
+
+pub use chain::{ChainSpec, Leg};
+pub use laws::{entries_rise, offsets_rise, runs_rise};
+pub use mode::Mode;
+pub use period::Period;
+pub use run::Run;
+pub use slot::Slot;
+pub use walk::Walk;
+pub use walks::Walks;

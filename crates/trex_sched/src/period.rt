@@ -1,0 +1,62 @@
+ghost use Rattle.std.specs.Prelude.{◌≡◌, ◌<◌, ◌≤◌, ◌^◌};
+
+/// The least numerator, in nanoseconds, that is too great for a period.
+const LIMIT: u128 = 100_000_000_000_000_000_000;
+
+/// The time between two packets of a burst, as the fraction `num / den` in nanoseconds: at least 1 ns, its numerator below 10^20.
+#[derive(Clone, Copy, Debug, PartialEq, Eq)]
+pub struct Period {
+    num: u128,
+    den: u128,
+    pub ghost whole: { 0 < den },
+    pub ghost at_least_one: { den ≤ num },
+    pub ghost short: { num < 10 ^ 20 },
+}
+
+impl Period {
+    ghost use Rattle.std.specs.Prelude.{◌⊎◌, ◌↔◌, ◌*◌, IsNone, IfSome};
+    ghost use Rattle.trex_sched.specs.Times.{burst_offset, period_of};
+
+    /// The period of `num / den` nanoseconds. There is none where it is below 1 ns or the fraction isn't one that is held.
+    pub fn new(num: u128, den: u128) -> Option<Period>
+        ensures exact { result ≡ period_of num den }
+        ensures none { IsNone result ↔ ((den ≡ 0) ⊎ ((num < den) ⊎ (10 ^ 20 ≤ num))) }
+        ensures value { IfSome result (λ period. (period.num ≡ num) × (period.den ≡ den)) }
+    {
+        if den == 0 || num < den || num >= LIMIT {
+            return None;
+        }
+        Some(Period { num, den })
+    }
+
+    /// The time of packet `k` of a burst, from the burst's start, in nanoseconds: the floor of `k * num / den`.
+    pub(crate) fn offset(&self, k: u64) -> u128
+        requires { k < 3 * 10 ^ 18 }
+        ensures value { result ≡ burst_offset self.now k }
+        ensures small { result ≤ k * 10 ^ 20 }
+    {
+        u128::from(k) * self.num / self.den
+    }
+}
+
+#[cfg(test)]
+mod tests {
+    use super::*;
+
+    #[test]
+    fn a_period_is_at_least_one_nanosecond_and_below_its_limit(rt: HostRuntime) {
+        let most = 99_999_999_999_999_999_999;
+        for (num, den, is_period) in [
+            (1, 0, false),
+            (0, 1, false),
+            (1, 1, true),
+            (999_999, 1_000_000, false),
+            (1_000_000, 1_000_000, true),
+            (most, 1, true),
+            (most + 1, 1, false),
+            (most, most, true),
+        ] {
+            assert_eq!(rt; Period::new(num, den).is_some(), is_period, "{num} / {den}");
+        }
+    }
+}

@@ -1,0 +1,10 @@
+// The latency header: 16 bytes at the end of a packet that say which flow it belongs to, where in it, and when it was due.
+#![tactic(auto)]
+
+mod header;
+mod spelling;
+#[cfg(test)]
+mod tests;
+
+pub use header::Stamp;
+pub use spelling::{find_stamp, stamp};

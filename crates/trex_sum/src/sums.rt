@@ -1,0 +1,69 @@
+ghost use Rattle.std.specs.Prelude.{◌≡◌, ◌*◌, ◌^◌, ◌<◌, ◌≤◌, ◌↔◌, IsTrue, length};
+ghost use Rattle.trex_sum.specs.Checksum.{sum_of, fold_of, Verifies};
+
+/// The plain sum of the 16-bit big-endian words, an odd last byte padded with zero on the right (RFC 1071, section 1).
+///
+/// Nothing is folded or complemented, so the sums of parts of even length add up to the sum of the whole.
+pub fn sum_words(bytes: &[u8]) -> u64
+    requires { length bytes.now < 2 ^ 40 }
+    ensures value { result ≡ sum_of bytes.now }
+    ensures bound { result ≤ 65536 * length bytes.now }
+{
+    let mut total = 0;
+    let mut rest = bytes;
+    while rest.len() >= 8 {
+        let (front, back) = rest.split_at(8);
+        total += sum_four_words(front);
+        rest = back;
+    }
+    total + sum_each_word(rest)
+}
+
+// the sum of four words, read as one number
+fn sum_four_words(bytes: &[u8]) -> u64
+    requires { length bytes.now ≡ 8 }
+    ensures value { result ≡ sum_of bytes.now }
+    ensures bound { result ≤ 262140 }
+{
+    let word = u64::from_be_bytes([
+        bytes[0], bytes[1], bytes[2], bytes[3], bytes[4], bytes[5], bytes[6], bytes[7],
+    ]);
+    (word >> 48) + (word >> 32) % 65536 + (word >> 16) % 65536 + word % 65536
+}
+
+// the sum, word by word
+fn sum_each_word(bytes: &[u8]) -> u64
+    requires { length bytes.now < 2 ^ 40 }
+    ensures value { result ≡ sum_of bytes.now }
+    ensures bound { result ≤ 65536 * length bytes.now }
+{
+    let mut total = 0;
+    let mut rest = bytes;
+    while let [high, low, tail @ ..] = rest {
+        total += u64::from(*high) * 256 + u64::from(*low);
+        rest = tail;
+    }
+    if let [last] = rest {
+        total += u64::from(*last) * 256;
+    }
+    total
+}
+
+/// The ones' complement fold of a sum into 16 bits: 0 only for 0 (RFC 1071, section 1).
+#[tactic(auto, unfolding(crate::specs::Checksum::fold_of))]
+pub fn fold(sum: u64) -> u16
+    ensures { result ≡ fold_of sum }
+{
+    if sum == 0 {
+        0
+    } else {
+        (1 + (sum - 1) % 65535) as u16
+    }
+}
+
+/// Whether words with this sum, their checksum among them, are intact: the sum folds to 0xffff (RFC 1071, section 1).
+pub fn verifies(sum: u64) -> bool
+    ensures { IsTrue result ↔ Verifies sum }
+{
+    fold(sum) == 0xffff
+}

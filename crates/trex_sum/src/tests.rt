@@ -1,0 +1,29 @@
+use crate::{fold, sum_words, verifies};
+
+// the numerical example of RFC 1071, section 3, whose sum is 2ddf0 and whose checksum is 220d
+#[test]
+fn sums_words_and_folds_them(rt: HostRuntime) {
+    let rows: [(&[u8], u64, u16); 6] = [
+        (&[], 0, 0),
+        (&[0xab], 0xab00, 0xab00),
+        (
+            &[0x00, 0x01, 0xf2, 0x03, 0xf4, 0xf5, 0xf6, 0xf7],
+            0x2ddf0,
+            0xddf2,
+        ),
+        (
+            &[0x00, 0x01, 0xf2, 0x03, 0xf4, 0xf5, 0xf6, 0xf7, 0x22, 0x0d],
+            0x2fffd,
+            0xffff,
+        ),
+        (&[0xff, 0xff, 0x80], 0x17fff, 0x8000),
+        (&[1, 2, 3, 4, 5, 6, 7, 8, 9, 10, 11], 0x241e, 0x241e),
+    ];
+    for (bytes, sum, folded) in rows {
+        assert!(rt; bytes.len() <= 11);
+        let found = sum_words(bytes);
+        assert_eq!(rt; found, sum, "the sum of {bytes:?}");
+        assert_eq!(rt; fold(found), folded, "the fold of {sum}");
+        assert_eq!(rt; verifies(found), folded == 0xffff, "whether {sum} verifies");
+    }
+}

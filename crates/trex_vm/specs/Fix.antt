@@ -1,0 +1,75 @@
+-- Checksums of headers, taken from scratch.
+use Rattle.std.specs.Prelude.{ℕ, ◌+◌, ◌-◌, ◌*◌, ◌%◌, ◌==◌, Bool, ◌&&◌, nat_le, if◌then◌else◌, List, [], ◌∷◌, ◌++◌, length, drop, slice_index}
+use Rattle.std.specs.List.{slice_range}
+use Rattle.byteorder.specs.Endian.{big_bytes, big_number}
+use Rattle.trex_fields.specs.Bytes.{put}
+use Rattle.trex_sum.specs.Checksum.{sum_of, fold_of}
+use Rattle.trex_vm.specs.declared.instr.L4Kind.{L4Kind}
+use Rattle.trex_vm.specs.declared.instr.L4Kind.TheVariants.{Tcp, Udp}
+
+-- the bytes with the checksum of a part of them at `field`: the field is set to zero, the part is summed from scratch,
+-- and the complement of the fold is written there as `written` says (RFC 1071, section 1)
+unfoldable pub summed : (ℕ → ℕ) → (List ℕ → List ℕ) → ℕ → List ℕ → List ℕ
+summed written part field bytes =
+    let zeroed = put field (0 ∷ 0 ∷ []) bytes in
+    put field (big_bytes 2 (written (65535 - fold_of (sum_of (part zeroed))))) zeroed
+
+-- the length of the IPv4 header at a place, from its lower four bits (RFC 791, section 3.1)
+abbrev pub header_length : List ℕ → ℕ → ℕ
+header_length bytes at = slice_index bytes at % 16 * 4
+
+-- the IPv4 header at a place (RFC 791, section 3.1)
+unfoldable pub header_at : ℕ → List ℕ → List ℕ
+header_at at bytes = slice_range bytes at (at + header_length bytes at)
+
+-- the bytes with the IPv4 header at a place fixed (RFC 791, section 3.1)
+abbrev pub fixed_ipv4 : ℕ → List ℕ → List ℕ
+fixed_ipv4 at bytes = summed (λ n. n) (header_at at) (at + 10) bytes
+
+-- the protocol number in the IPv4 header (RFC 790)
+abbrev pub protocol_of : L4Kind → ℕ
+protocol_of Tcp = 6
+protocol_of Udp = 17
+
+-- the least bytes of a segment: TCP's header without options (RFC 793, section 3.1), UDP's header (RFC 768)
+abbrev pub least_segment : L4Kind → ℕ
+least_segment Tcp = 20
+least_segment Udp = 8
+
+-- the place of the checksum in the segment (RFC 793, section 3.1; RFC 768)
+abbrev pub sum_place : L4Kind → ℕ
+sum_place Tcp = 16
+sum_place Udp = 6
+
+-- the checksum as it is written: a UDP checksum that comes out as zero is all ones (RFC 768)
+abbrev pub written_sum : L4Kind → ℕ → ℕ
+written_sum Tcp n = n
+written_sum Udp n = if n == 0 then 65535 else n
+
+-- the segment's length: of TCP the IPv4 total length less the header (RFC 793, section 3.1), of UDP its length field (RFC 768)
+abbrev pub segment_length : L4Kind → ℕ → ℕ → List ℕ → ℕ
+segment_length Tcp ip header bytes = big_number 2 (drop (ip + 2) bytes) - header
+segment_length Udp ip header bytes = big_number 2 (drop (ip + header + 4) bytes)
+
+-- the segment has its header, and ends within the bytes. Own
+abbrev pub segment_fits : L4Kind → ℕ → ℕ → List ℕ → Bool
+segment_fits kind ip header bytes =
+    let len = segment_length kind ip header bytes in
+    nat_le (least_segment kind) len && nat_le (ip + header + len) (length bytes)
+
+-- the pseudo header: the two addresses, zero, the protocol and the segment's length (RFC 768; RFC 793, section 3.1)
+abbrev pub pseudo_header : ℕ → ℕ → List ℕ → List ℕ
+pseudo_header ip len bytes = slice_range bytes (ip + 12) (ip + 20) ++ (0 ∷ slice_index bytes (ip + 9) ∷ big_bytes 2 len)
+
+-- what the checksum covers: the pseudo header, then the segment (RFC 768; RFC 793, section 3.1)
+unfoldable pub segment_at : L4Kind → ℕ → ℕ → List ℕ → List ℕ
+segment_at kind ip header bytes =
+    let len = segment_length kind ip header bytes in
+    pseudo_header ip len bytes ++ slice_range bytes (ip + header) (ip + header + len)
+
+-- the bytes with the TCP or UDP segment behind the IPv4 header at `ip` fixed; a segment that doesn't fit is left as it is
+abbrev pub fixed_l4 : L4Kind → ℕ → ℕ → List ℕ → List ℕ
+fixed_l4 kind ip header bytes =
+    if segment_fits kind ip header bytes
+    then summed (written_sum kind) (segment_at kind ip header) (ip + header + sum_place kind) bytes
+    else bytes

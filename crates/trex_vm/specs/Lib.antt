@@ -1,0 +1,4 @@
+pub mod Fix
+pub mod Packet
+pub mod Cover
+pub mod Program

@@ -1,0 +1,4 @@
+pub mod Faultless
+pub mod Firsts
+pub mod Numbers
+pub mod Words

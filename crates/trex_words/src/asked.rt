@@ -1,0 +1,53 @@
+/// A request.
+#[derive(Clone, Copy, Debug, PartialEq, Eq)]
+pub enum Asked {
+    /// Make the capture of a profile.
+    Run(RunAsk),
+    /// Tell whether a profile is accepted.
+    Check,
+}
+
+/// The options of a run.
+#[derive(Clone, Copy, Debug, PartialEq, Eq)]
+pub struct RunAsk {
+    /// The end of the schedule in nanoseconds: packets before it are sent.
+    pub duration: u64,
+    /// The most packets that are sent.
+    pub limit: u64,
+    /// How many cores share the work.
+    pub cores: u32,
+    /// The schedule's zero, in seconds of the capture's clock.
+    pub base: u32,
+}
+
+/// An option, by its name.
+#[derive(Clone, Copy, Debug, PartialEq, Eq)]
+pub enum OptionName {
+    Duration,
+    Limit,
+    Cores,
+    Base,
+    Seed,
+    Streams,
+}
+
+/// Words without a meaning: the first fault from the left. Places count from 0, the command included.
+#[derive(Clone, Copy, Debug, PartialEq, Eq)]
+pub enum Usage {
+    /// There is no word.
+    NoCommand,
+    /// The first word isn't a command.
+    UnknownCommand,
+    /// The word at this place isn't an option of the command.
+    UnknownOption { at: usize },
+    /// The option at this place stood before.
+    Repeated { at: usize },
+    /// No word follows the option at this place.
+    NoValue { at: usize },
+    /// The value at this place isn't one or more digits.
+    BadNumber { at: usize },
+    /// The value at this place lies outside the option's range.
+    OutOfRange { at: usize },
+    /// An option that must be given isn't.
+    Missing { option: OptionName },
+}
