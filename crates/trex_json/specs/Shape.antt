@@ -57,24 +57,15 @@ packet_wrong stream =
     not_there false true = false
     not_there false false = true
 
--- a mode that isn't read: only a single burst is
-abbrev pub unread_mode : Option ModeWord → Bool
-unread_mode None = false
-unread_mode (Some ContinuousWord) = true
-unread_mode (Some SingleBurstWord) = false
-unread_mode (Some MultiBurstWord) = true
-
 -- there is an item
 abbrev pub some_item : List Data → Bool
 some_item [] = false
 some_item (d ∷ ds) = true
 
--- a form that isn't read: layers, a next stream, a mode, a flow, an instruction
-unfoldable pub unbuilt : Data → Option ℕ → Data → Bool
-unbuilt packet next stream =
+-- a form that isn't read: layers, a flow, an instruction
+unfoldable pub unbuilt : Data → Data → Bool
+unbuilt packet stream =
     is_none (under (codes "binary") packet)
-    || is_some next
-    || unread_mode (told row.mode_type (value row.mode stream))
     || value row.flow_enabled (value row.flow_stats stream)
     || some_item (value row.instructions (value row.vm stream))
 
@@ -138,7 +129,7 @@ unfoldable pub stream_rules : Data → Option Breach
 stream_rules stream = first (
     field_rules stream
     ∷ rule BadPacket (packet_wrong stream)
-    ∷ rule Unbuilt (unbuilt (value row.packet stream) (value row.next stream) stream)
+    ∷ rule Unbuilt (unbuilt (value row.packet stream) stream)
     ∷ rule BadBinary (wrong row.binary (value row.packet stream))
     ∷ mode_rules stream
     ∷ rule BadFlowStats (flow_wrong stream)

@@ -1,7 +1,7 @@
 -- The verdict on a profile's text: the first rule that it breaks, or its streams (own).
 use Rattle.std.specs.Prelude.{◌≡◌, ℕ, nat_lt, List, [], ◌∷◌, length, map, Option, is_none, option_map, option_and_then, unwrap_or, Result, Ok, Err}
 use Rattle.serde_json.specs.Data.{Data}
-use Rattle.trex_profile.specs.declared.rule.Rule.TheVariants.{TooLong, NotJson, NotArray, TooManyStreams, Unbuilt}
+use Rattle.trex_profile.specs.declared.rule.Rule.TheVariants.{TooLong, NotJson, NotArray, TooManyStreams}
 use Rattle.trex_profile.specs.declared.refusal.Refusal.{Refusal}
 use Rattle.trex_profile.specs.declared.refusal.Breach.{Breach}
 use Rattle.trex_profile.specs.Order.{first, first_each, unless, ◌>>=◌}
@@ -26,7 +26,6 @@ entries text = unwrap_or (array_of text) []
 abbrev pub entries_refusal : List Data → Option Refusal
 entries_refusal entries = first (
     document TooManyStreams (nat_lt 4096 (length entries))
-    ∷ document Unbuilt (nat_lt 1 (length entries))
     ∷ first_each shape_refusal 0 entries
     ∷ [])
 

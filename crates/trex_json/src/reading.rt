@@ -58,9 +58,6 @@ fn entries_of(alloc: Global, entries: &[Value]) -> Result<RawProfile, ProfileFau
     if entries.len() > MOST_STREAMS {
         return Err(refused(Rule::TooManyStreams));
     }
-    if entries.len() > 1 {
-        return Err(refused(Rule::Unbuilt));
-    }
     let streams = each_entry(alloc, entries)?;
     Ok(RawProfile { streams })
 }

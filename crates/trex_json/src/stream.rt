@@ -4,17 +4,15 @@ ghost use Rattle.serde_json.specs.View.{view};
 ghost use Rattle.trex_profile.specs.Order.{unless};
 ghost use Rattle.trex_profile.specs.Stream.{raw_stream, IsRawStream};
 ghost use Rattle.trex_json.specs.Answer.{Gives};
-ghost use Rattle.trex_json.specs.Names.{told, value};
+ghost use Rattle.trex_json.specs.Names.{value};
 ghost use Rattle.trex_json.specs.Rows as row;
-ghost use Rattle.trex_json.specs.Shape.{field_rules, fields, packet_wrong, unread_mode, some_item, unbuilt, flow_wrong, vm_wrong, stream_rules, stream_of};
+ghost use Rattle.trex_json.specs.Shape.{field_rules, fields, packet_wrong, some_item, unbuilt, flow_wrong, vm_wrong, stream_rules, stream_of};
 
 use crate::binary::bytes_told;
 use crate::fault::ShapeFault;
-use crate::kinds::{ModeWord, an_array, an_object};
+use crate::kinds::{an_array, an_object};
 use crate::mode::mode_of;
-use crate::names::{
-    bool_told, gap_told, latency_told, mode_told, next_told, object_told, under, whole_told,
-};
+use crate::names::{bool_told, gap_told, latency_told, next_told, object_told, under, whole_told};
 use serde_json::Value;
 use std::alloc::Global;
 use trex_profile::{RawStream, Rule};
@@ -78,19 +76,6 @@ fn packet_of(stream: &Value) -> Option<&Value>
     }
 }
 
-/// Whether a mode isn't read: only a single burst is.
-fn is_unread_mode(stream: &Value) -> bool
-    ensures { result ≡ unread_mode (told row.mode_type (value row.mode (view stream.now))) }
-{
-    let Some(mode) = object_told(stream, "mode") else {
-        return false;
-    };
-    match mode_told(mode, "type") {
-        None | Some(ModeWord::SingleBurst) => false,
-        Some(ModeWord::Continuous | ModeWord::MultiBurst) => true,
-    }
-}
-
 /// Whether the flow of a stream is enabled.
 fn has_flow(stream: &Value) -> bool
     ensures { result ≡ value row.flow_enabled (value row.flow_stats (view stream.now)) }
@@ -119,14 +104,10 @@ fn has_instructions(stream: &Value) -> bool
 
 /// Whether a stream has a form that isn't read.
 #[tactic(auto, unfolding(crate::specs::Shape::unbuilt))]
-fn is_unbuilt(packet: &Value, next: Option<u32>, stream: &Value) -> bool
-    ensures { result ≡ unbuilt (view packet.now) next (view stream.now) }
+fn is_unbuilt(packet: &Value, stream: &Value) -> bool
+    ensures { result ≡ unbuilt (view packet.now) (view stream.now) }
 {
-    under(packet, "binary").is_none()
-        || next.is_some()
-        || is_unread_mode(stream)
-        || has_flow(stream)
-        || has_instructions(stream)
+    under(packet, "binary").is_none() || has_flow(stream) || has_instructions(stream)
 }
 
 /// Whether the flow of a stream is wrong.
@@ -176,7 +157,7 @@ pub(crate) fn stream_of(alloc: Global, id: u32, stream: &Value) -> Result<RawStr
 {
     let fields = fields_of(stream)?;
     let packet = packet_of(stream).ok_or(ShapeFault::of_stream(Rule::BadPacket))?;
-    if is_unbuilt(packet, fields.next, stream) {
+    if is_unbuilt(packet, stream) {
         return Err(ShapeFault::of_stream(Rule::Unbuilt));
     }
     let template = bytes_told(alloc, packet, "binary")?.ok_or(ShapeFault::of_stream(

@@ -49,7 +49,10 @@ fn documents_and_entries_are_refused(rt: HostRuntime) -> Result<(), Fail> {
         ("\u{feff}[]", refused(Rule::NotJson, None)),
         ("{}", refused(Rule::NotArray, None)),
         ("[]", None),
-        ("[{},{}]", refused(Rule::Unbuilt, None)),
+        (
+            r#"[{"stream_id":1,"stream":{}},{}]"#,
+            refused(Rule::BadPacket, Some(0)),
+        ),
         ("[null]", refused(Rule::BadEntry, Some(0))),
         ("[1]", refused(Rule::BadEntry, Some(0))),
         (r#"[{"stream":{}}]"#, refused(Rule::BadStreamId, Some(0))),
@@ -110,7 +113,7 @@ fn the_lengths_of_texts_and_arrays_end(rt: HostRuntime) -> Result<(), Fail> {
         refused(Rule::TooLong, None)
     );
     for (entries, expected) in [
-        (4_096, refused(Rule::Unbuilt, None)),
+        (4_096, refused(Rule::BadEntry, Some(0))),
         (4_097, refused(Rule::TooManyStreams, None)),
     ] {
         let Ok(text) = array(rt.alloc(), entries - 1) else {
@@ -148,7 +151,8 @@ fn the_names_of_a_stream_are_of_their_kinds(rt: HostRuntime) -> Result<(), Fail>
             Some(Rule::BadNext),
         ),
         (r#""next_stream_id":2147483648,"#, Some(Rule::BadNext)),
-        (r#""next_stream_id":1,"#, Some(Rule::Unbuilt)),
+        (r#""next_stream_id":1,"#, None),
+        (r#""next_stream_id":9,"#, Some(Rule::NoSuchStream)),
         (r#""action_count":4294967295,"#, None),
         (
             r#""action_count":4294967296,"random_seed":-1,"#,
@@ -216,8 +220,32 @@ fn packets_and_modes_are_of_their_kinds(rt: HostRuntime) -> Result<(), Fail> {
             r#"{"rate":{"type":"pps","value":3}}"#,
             Some(Rule::BadMode),
         ),
-        (PACKET, r#"{"type":"continuous"}"#, Some(Rule::Unbuilt)),
-        (PACKET, r#"{"type":"multi_burst"}"#, Some(Rule::Unbuilt)),
+        (PACKET, r#"{"type":"continuous"}"#, Some(Rule::BadRate)),
+        (
+            PACKET,
+            r#"{"type":"continuous","rate":{"type":"pps","value":3},"total_pkts":"x"}"#,
+            None,
+        ),
+        (
+            PACKET,
+            r#"{"type":"multi_burst","rate":{"type":"pps","value":3},"pkts_per_burst":1}"#,
+            Some(Rule::BadCount),
+        ),
+        (
+            PACKET,
+            r#"{"type":"multi_burst","rate":{"type":"pps","value":3},"count":1,"ibg":"x"}"#,
+            Some(Rule::BadCount),
+        ),
+        (
+            PACKET,
+            r#"{"type":"multi_burst","rate":{"type":"pps","value":3},"pkts_per_burst":0,"count":1,"ibg":"x"}"#,
+            Some(Rule::BadIbg),
+        ),
+        (
+            PACKET,
+            r#"{"type":"multi_burst","rate":{"type":"pps","value":3},"pkts_per_burst":0,"count":0}"#,
+            Some(Rule::CountZero),
+        ),
         (PACKET, r#"{"type":"single_burst"}"#, Some(Rule::BadRate)),
         (
             PACKET,
@@ -305,6 +333,104 @@ fn a_burst_is_read(rt: HostRuntime) -> Result<(), Fail> {
     for names in [r#""enabled":false,"#, r#""self_start":false,"#] {
         let quiet = read_one(rt.alloc(), names, PACKET, MODE)?;
         assert_eq!(rt; quiet.chains().len(), 0, "{names}");
+    }
+    Ok(())
+}
+
+/// Three streams by their ids, each a burst of one packet, with further names.
+fn three(alloc: Global, first: &str, second: &str, third: &str) -> Result<String, AllocError> {
+    format!(in alloc;
+        "[{{\"stream_id\":1,\"stream\":{{{first}\"packet\":{PACKET},\"mode\":{MODE}}}}},{{\"stream_id\":2,\"stream\":{{{second}\"packet\":{PACKET},\"mode\":{MODE}}}}},{{\"stream_id\":3,\"stream\":{{{third}\"packet\":{PACKET},\"mode\":{MODE}}}}}]"
+    )
+}
+
+#[test]
+fn streams_follow_one_another(rt: HostRuntime) -> Result<(), Fail> {
+    let next3 = r#""next_stream_id":3,"#;
+    let quiet = r#""self_start":false,"#;
+    for (first, second, third, expected) in [
+        ("", "", "", None),
+        (next3, next3, "", refused(Rule::SharedStream, Some(2))),
+        (next3, "", quiet, None),
+        (
+            r#""next_stream_id":1,"#,
+            r#""next_stream_id":4,"#,
+            "",
+            refused(Rule::NoSuchStream, Some(1)),
+        ),
+        (
+            next3,
+            "",
+            r#""self_start":false,"next_stream_id":2,"#,
+            refused(Rule::SharedStream, Some(1)),
+        ),
+        (
+            next3,
+            r#""enabled":false,"#,
+            r#""self_start":false,"next_stream_id":2,"#,
+            None,
+        ),
+    ] {
+        let Ok(text) = three(rt.alloc(), first, second, third) else {
+            return Err(Fail::from("memory"));
+        };
+        assert_eq!(rt;
+            refusal_of(rt.alloc(), text.as_bytes())?,
+            expected,
+            "{first} {second} {third}"
+        );
+    }
+    Ok(())
+}
+
+#[test]
+fn chains_visit_streams_in_the_order_in_which_they_follow(rt: HostRuntime) -> Result<(), Fail> {
+    let quiet = r#""self_start":false,"next_stream_id":2,"#;
+    for (first, second, third, legs, back) in [
+        (
+            r#""next_stream_id":1,"#,
+            r#""enabled":false,"#,
+            r#""enabled":false,"#,
+            [0].as_slice(),
+            Some(0),
+        ),
+        (
+            r#""next_stream_id":2,"#,
+            r#""enabled":false,"#,
+            r#""enabled":false,"#,
+            [0].as_slice(),
+            None,
+        ),
+        (
+            r#""next_stream_id":3,"#,
+            r#""self_start":false,"#,
+            quiet,
+            [0, 2, 1].as_slice(),
+            None,
+        ),
+        (
+            r#""next_stream_id":3,"#,
+            r#""self_start":false,"next_stream_id":3,"#,
+            quiet,
+            [0, 2, 1].as_slice(),
+            Some(1),
+        ),
+    ] {
+        let Ok(text) = three(rt.alloc(), first, second, third) else {
+            return Err(Fail::from("memory"));
+        };
+        let Ok(profile) = read_profile(rt.alloc(), text.as_bytes()) else {
+            return Err(Fail::from("refused"));
+        };
+        assert_eq!(rt; profile.chains().len(), 1);
+        let Some(chain) = profile.chains().first() else {
+            return Err(Fail::from("no chain"));
+        };
+        assert_eq!(rt; chain.back, back);
+        assert_eq!(rt; chain.legs.len(), legs.len());
+        for (leg, stream) in chain.legs.iter().zip(legs) {
+            assert_eq!(rt; leg.stream, *stream);
+        }
     }
     Ok(())
 }

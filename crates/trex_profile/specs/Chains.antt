@@ -1,5 +1,6 @@
 -- The chains of a profile's streams (own).
-use Rattle.std.specs.Prelude.{ℕ, ◌+◌, ◌&&◌, Bool, List, [], ◌∷◌, None, unwrap_or, if◌then◌else◌}
+use Rattle.std.specs.Prelude.{ℕ, ◌+◌, ◌&&◌, Bool, List, [], ◌∷◌, map, slice_get, Option, option_map, unwrap_or, if◌then◌else◌}
+use Rattle.std.specs.List.{filter_map}
 use Rattle.std.proofs.Math.Dec.{lit≤, lit<}
 use Rattle.trex_sched.specs.Times.{period_of}
 use Rattle.trex_sched.specs.Chain.{Chain}
@@ -7,6 +8,8 @@ use Rattle.trex_sched.specs.declared.period.Period.{Period}
 use Rattle.trex_sched.specs.declared.chain.Leg.{Leg}
 use Rattle.trex_profile.specs.Stream.{Stream}
 use Rattle.trex_profile.specs.Rules.{numerator}
+use Rattle.trex_profile.specs.Links.{links}
+use Rattle.trex_profile.specs.Visits.{Round, round_of}
 
 -- one nanosecond
 abbrev one_nanosecond : Period
@@ -25,13 +28,24 @@ leg_at position s =
 abbrev pub begins : Stream → Bool
 begins s = s.enabled && s.self_start
 
--- the chains that the streams from a position on begin
-abbrev pub chains_from : ℕ → List Stream → List Chain
-chains_from position [] = []
-chains_from position (s ∷ streams) =
-    if begins s then record { legs = leg_at position s ∷ []; back = None } ∷ chains_from (position + 1) streams
-    else chains_from (position + 1) streams
+-- the positions of those among the streams from a position on
+abbrev pub starts_from : ℕ → List Stream → List ℕ
+starts_from position [] = []
+starts_from position (s ∷ streams) =
+    if begins s then position ∷ starts_from (position + 1) streams else starts_from (position + 1) streams
+
+-- the positions of the streams that start by themselves
+abbrev pub starts : List Stream → List ℕ
+starts streams = starts_from 0 streams
+
+-- the stream at a position as a leg
+abbrev pub leg_of : List Stream → ℕ → Option Leg
+leg_of streams at = option_map (leg_at at) (slice_get streams at)
+
+-- the chain that visits the streams of a round
+abbrev pub chain_by : List Stream → Round → Chain
+chain_by streams round = record { legs = filter_map (leg_of streams) round.order; back = round.back }
 
 -- one chain for each stream that starts by itself, in order of position
 abbrev pub chains_of : List Stream → List Chain
-chains_of streams = chains_from 0 streams
+chains_of streams = map (λ start. chain_by streams (round_of (links streams) start)) (starts streams)

@@ -3,5 +3,9 @@ pub mod Refusal
 pub mod Stream
 pub mod Rules
 pub mod Admission
+pub mod Links
+pub mod Visits
+pub mod Reached
 pub mod Chains
+pub mod Cross
 pub mod Member

@@ -5,6 +5,7 @@ ghost use Rattle.trex_profile.specs.Order.{first_each, unless};
 ghost use Rattle.trex_profile.specs.Rules.{value_refusal};
 ghost use Rattle.trex_profile.specs.Stream.{IsRawStream, raw_stream};
 
+use crate::cross::follow;
 use crate::member::Member;
 use crate::profile::Profile;
 use crate::raw::{RawProfile, RawStream};
@@ -15,7 +16,7 @@ use trex_io::Memory;
 /// Why a profile isn't admitted.
 #[derive(Clone, Copy, Debug, PartialEq, Eq)]
 pub enum AdmitFault {
-    /// The first broken rule on values.
+    /// The first broken rule on values, or over several streams.
     Refused(Refusal),
     /// There was no memory for the profile.
     Memory,
@@ -59,13 +60,14 @@ fn each_stream(alloc: Global, raws: Vec<RawStream>) -> Result<Vec<Member>, Admit
     Ok(members)
 }
 
-/// Admits a profile, unless a rule on its values is broken: the first one is the refusal.
+/// Admits a profile, unless a rule on its values or over its streams is broken: the first one is the refusal.
 pub fn admit(alloc: Global, raw: RawProfile) -> Result<Profile, AdmitFault>
     requires { IsRawProfile raw }
     ensures { Admits (λ streams. streams) result (admitted (map raw_stream raw.streams.items)) }
 {
     let members = each_stream(alloc, raw.streams)?;
-    Ok(Profile::new(alloc, members)?)
+    let following = follow(alloc, &members)?;
+    Ok(Profile::new(alloc, members, &following)?)
 }
 
 #[cfg(test)]

@@ -3,9 +3,12 @@
 
 mod admission;
 mod chains;
+mod cross;
+mod links;
 mod member;
 mod profile;
 mod raw;
+mod reach;
 mod refusal;
 mod rule;
 

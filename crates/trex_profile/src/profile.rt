@@ -1,4 +1,5 @@
 use crate::chains::chains_of;
+use crate::cross::Following;
 use crate::member::{Member, StreamSpec};
 use std::alloc::Global;
 use std::marker::Model;
@@ -29,20 +30,32 @@ impl Model for Profile {
 }
 
 impl Profile {
-    ghost use Rattle.std.specs.Prelude.{◌≡◌, ◌≤◌, ◌<◌, ◌↔◌, [], length, map, None, IsTrue, IfOk, IsSomeAnd, slice_get};
+    ghost use Rattle.std.specs.Prelude.{◌≡◌, ℕ, ◌≤◌, ◌<◌, ◌↔◌, [], length, map, None, Some, IsTrue, IfOk, IsSomeAnd, slice_get};
     ghost use Rattle.std.specs.List.{AllByRecursion};
     ghost use Rattle.trex_sched.specs.Chain.{chain_of, IsChain};
     ghost use Rattle.trex_sched.specs.Walks.{HaveDistinctStreams};
     ghost use Rattle.trex_profile.specs.Admission.{refusal_of};
-    ghost use Rattle.trex_profile.specs.Chains.{chains_of};
+    ghost use Rattle.trex_profile.specs.Chains.{starts, chains_of};
+    ghost use Rattle.trex_profile.specs.Links.{links};
     ghost use Rattle.trex_profile.specs.Member.{member_stream};
+    ghost use Rattle.trex_profile.specs.Reached.{AreRising};
+    ghost use Rattle.trex_profile.specs.Visits.{link_at};
 
-    pub(crate) fn new(alloc: Global, members: Vec<Member>) -> Result<Profile, Memory>
+    pub(crate) fn new(
+        alloc: Global,
+        members: Vec<Member>,
+        following: &Following,
+    ) -> Result<Profile, Memory>
         requires few { length members.items ≤ 4096 }
         requires kept { refusal_of (map member_stream members.items) ≡ None }
+        requires links { following.now.links.items ≡ links (map member_stream members.items) }
+        requires same { length following.now.links.items ≡ length members.items }
+        requires within { (at next : ℕ) → link_at following.now.links.items at ≡ Some next → next < length following.now.links.items }
+        requires starts { following.now.starts.items ≡ starts (map member_stream members.items) }
+        requires rising { AreRising (length following.now.links.items) 0 following.now.starts.items }
         ensures { IfOk result (λ profile. profile ≡ map member_stream members.items) }
     {
-        let chains = chains_of(alloc, &members)?;
+        let chains = chains_of(alloc, &members, &following.links, &following.starts)?;
         Ok(Profile { members, chains })
     }
 

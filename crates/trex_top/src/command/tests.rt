@@ -3,6 +3,7 @@ use std::alloc::Global;
 use std::process::Abort;
 use std::test::Fail;
 use trex_io::{MemSink, MemSource};
+use trex_pcap::{header, record_header};
 
 const CAPTURE: &[u8; 114] = b"\x4d\x3c\xb2\xa1\x02\0\x04\0\0\0\0\0\0\0\0\0\0\0\x04\0\x01\0\0\0\
 \0\0\0\0\0\0\0\0\x0e\0\0\0\x0e\0\0\0\x02\0\0\0\0\x02\x02\0\0\0\0\x01\x88\xb5\
@@ -46,6 +47,27 @@ fn burst(alloc: Global, total: u32, kind: &str, value: &str) -> Result<String, F
         r#""type":"single_burst","total_pkts":{total},"rate":{{"type":"{kind}","value":{value}}}"#
     )?;
     profile(alloc, mode.as_str())
+}
+
+/// A burst of one packet, which lasts a nanosecond.
+const ONE: &str =
+    r#""type":"single_burst","total_pkts":1,"rate":{"type":"pps","value":1000000000}"#;
+
+/// An entry of 14-byte packets that end in the stream's id.
+fn entry(alloc: Global, id: u8, names: &str, mode: &str) -> Result<String, Fail> {
+    Ok(format!(in alloc;
+        r#"{{"stream_id":{id},"stream":{{{names}"packet":{{"binary":[2,0,0,0,0,2,2,0,0,0,0,1,136,{id}]}},"mode":{{{mode}}}}}}}"#
+    )?)
+}
+
+/// The capture of such packets, each by its time in nanoseconds and its stream's id.
+fn capture(alloc: Global, sent: &[(u32, u8)]) -> Result<Vec<u8>, Fail> {
+    let mut bytes = Vec::from_slice(alloc, &header())?;
+    for (time, id) in sent {
+        bytes.extend_from_slice(&record_header(u64::from(*time), 14))?;
+        bytes.extend_from_slice(&[2, 0, 0, 0, 0, 2, 2, 0, 0, 0, 0, 1, 136, *id])?;
+    }
+    Ok(bytes)
 }
 
 /// Runs over memory, at most ten bytes a call.
@@ -109,18 +131,22 @@ fn the_first_broken_rule_is_told(rt: HostRuntime) -> Result<(), Fail> {
     let still = burst(alloc, 0, "pps", "0")?;
     let fast = burst(alloc, 1, "pps", "1000000000.000001")?;
     let share = burst(alloc, 1, "percentage", "1")?;
-    let endless = profile(
-        alloc,
-        r#""type":"continuous","rate":{"type":"pps","value":3}"#,
-    )?;
+    let one = entry(alloc, 1, "", ONE)?;
+    let to_three = entry(alloc, 2, r#""next_stream_id":3,"#, ONE)?;
+    let from_one = entry(alloc, 1, r#""next_stream_id":3,"#, ONE)?;
+    let three = entry(alloc, 3, "", ONE)?;
+    let lost = format!(in alloc; "[{from_one}]")?;
+    let shared = format!(in alloc; "[{from_one},{to_three},{three}]")?;
+    let twice = format!(in alloc; "[{one},{one}]")?;
     let lines = [
         ("[", "refused: NotJson\n"),
         ("{}", "refused: NotArray\n"),
         (still.as_str(), "refused: RateZero stream 0\n"),
         (fast.as_str(), "refused: RateTooHigh stream 0\n"),
         (share.as_str(), "refused: BadRate stream 0\n"),
-        ("[{},{}]", "refused: Unbuilt\n"),
-        (endless.as_str(), "refused: Unbuilt stream 0\n"),
+        (lost.as_str(), "refused: NoSuchStream stream 0\n"),
+        (shared.as_str(), "refused: SharedStream stream 2\n"),
+        (twice.as_str(), "refused: DuplicateId stream 1\n"),
     ];
     for (text, line) in lines {
         for command in ["run", "check"] {
@@ -203,4 +229,162 @@ fn a_stream_that_fails_is_told(rt: HostRuntime) -> Result<(), Fail> {
     let untold = run(alloc, "check", thirds.as_str(), Failing { out: 1, ..NONE })?;
     assert_left(&rt, &untold, Status::OutFault, b"", b"write fault\n");
     Ok(())
+}
+
+/// Looks at what a profile of such entries sends.
+fn assert_sent(
+    rt: &impl Abort,
+    alloc: Global,
+    line: &str,
+    entries: &[String],
+    sent: &[(u32, u8)],
+) -> Result<(), Fail> {
+    let mut text = String::from_str(alloc, "[")?;
+    for (place, entry) in entries.iter().enumerate() {
+        if place > 0 {
+            text.push_str(",")?;
+        }
+        text.push_str(entry.as_str())?;
+    }
+    text.push_str("]")?;
+    let ran = run(alloc, line, text.as_str(), NONE)?;
+    assert_eq!(rt; ran.status, Status::Done);
+    assert_eq!(rt; ran.out.bytes(), capture(alloc, sent)?.as_slice());
+    Ok(())
+}
+
+#[test]
+fn packets_of_one_time_go_by_stream(rt: HostRuntime) -> Result<(), Fail> {
+    let alloc = rt.alloc();
+    let mode = r#""type":"continuous","rate":{"type":"pps","value":1000}"#;
+    let two = [entry(alloc, 1, "", mode)?, entry(alloc, 2, "", mode)?];
+    assert_sent(
+        &rt,
+        alloc,
+        "run --limit 3",
+        &two,
+        &[(0, 1), (0, 2), (1_000_000, 1)],
+    )
+}
+
+#[test]
+fn chains_go_on_and_back_and_stop(rt: HostRuntime) -> Result<(), Fail> {
+    let alloc = rt.alloc();
+    let next = r#""next_stream_id":2,"#;
+    let back = r#""next_stream_id":1,"self_start":false,"#;
+    let cycle = [entry(alloc, 1, next, ONE)?, entry(alloc, 2, back, ONE)?];
+    assert_sent(
+        &rt,
+        alloc,
+        "run --limit 7",
+        &cycle,
+        &[(0, 1), (1, 2), (2, 1), (3, 2), (4, 1), (5, 2), (6, 1)],
+    )?;
+    let twice = [
+        entry(alloc, 1, r#""next_stream_id":2,"action_count":2,"#, ONE)?,
+        entry(alloc, 2, back, ONE)?,
+    ];
+    assert_sent(&rt, alloc, "run", &twice, &[(0, 1), (1, 2), (2, 1)])?;
+    let disabled = [
+        entry(alloc, 1, next, ONE)?,
+        entry(alloc, 2, r#""next_stream_id":1,"enabled":false,"#, ONE)?,
+    ];
+    assert_sent(&rt, alloc, "run", &disabled, &[(0, 1)])?;
+    let two = r#""type":"single_burst","total_pkts":2,"rate":{"type":"pps","value":1000000000}"#;
+    let own = [entry(alloc, 1, r#""next_stream_id":1,"action_count":3,"#, two)?];
+    assert_sent(
+        &rt,
+        alloc,
+        "run",
+        &own,
+        &[(0, 1), (1, 1), (2, 1), (3, 1), (4, 1), (5, 1)],
+    )
+}
+
+#[test]
+fn bursts_gaps_and_the_duration(rt: HostRuntime) -> Result<(), Fail> {
+    let alloc = rt.alloc();
+    let bursts =
+        r#""type":"multi_burst","pkts_per_burst":2,"count":3,"ibg":12.5,"rate":{"type":"pps","value":1000000}"#;
+    let multi = [entry(alloc, 1, "", bursts)?];
+    assert_sent(
+        &rt,
+        alloc,
+        "run",
+        &multi,
+        &[
+            (0, 1),
+            (1_000, 1),
+            (14_500, 1),
+            (15_500, 1),
+            (29_000, 1),
+            (30_000, 1),
+        ],
+    )?;
+    let endless = r#""type":"continuous","rate":{"type":"pps","value":1000000000}"#;
+    let edge = [entry(alloc, 1, "", endless)?];
+    assert_sent(&rt, alloc, "run --duration 1", &edge, &[(0, 1)])?;
+    assert_sent(&rt, alloc, "run --duration 2", &edge, &[(0, 1), (1, 1)])?;
+    let late = [entry(alloc, 1, r#""isg":0.002,"#, ONE)?];
+    assert_sent(&rt, alloc, "run --duration 2", &late, &[])?;
+    assert_sent(&rt, alloc, "run --duration 3", &late, &[(2, 1)])
+}
+
+/// Names of a stream, of which some aren't read.
+const STREAM_NAMES: &str =
+    r#""enabled":true,"self_start":true,"isg":0.0,"next_stream_id":-1,"flags":3,"action_count":0,"#;
+
+const MORE_NAMES: &str =
+    r#""random_seed":0,"core_id":-1,"start_paused":false,"vm":{"instructions":[]},"#;
+
+#[test]
+fn names_that_the_tables_do_not_give_are_passed_over(rt: HostRuntime) -> Result<(), Fail> {
+    let alloc = rt.alloc();
+    let packet =
+        r#""packet":{"binary":"AgAAAAACAgAAAAABiLU=","meta":""},"flow_stats":{"enabled":false},"#;
+    let mode = r#""mode":{"type":"continuous","rate":{"type":"pps","value":1e+06}}"#;
+    let text = format!(in alloc;
+        r#"[{{"handler":"x","api_h":"y","port_id":0,"stream_id":1,"stream":{{{STREAM_NAMES}{MORE_NAMES}{packet}{mode}}}}}]"#
+    )?;
+    let checked = run(alloc, "check", text.as_str(), NONE)?;
+    assert_left(&rt, &checked, Status::Done, b"accepted streams 1\n", b"");
+    let ran = run(alloc, "run --limit 2", text.as_str(), NONE)?;
+    assert_eq!(rt;
+        ran.out.bytes(),
+        capture(alloc, &[(0, 0xb5), (1_000, 0xb5)])?.as_slice()
+    );
+    Ok(())
+}
+
+#[test]
+fn cycles_of_three_and_bursts_without_end(rt: HostRuntime) -> Result<(), Fail> {
+    let alloc = rt.alloc();
+    let three = [
+        entry(alloc, 1, r#""next_stream_id":2,"#, ONE)?,
+        entry(
+            alloc,
+            2,
+            r#""next_stream_id":3,"self_start":false,"action_count":2,"#,
+            ONE,
+        )?,
+        entry(alloc, 3, r#""next_stream_id":1,"self_start":false,"#, ONE)?,
+    ];
+    assert_sent(
+        &rt,
+        alloc,
+        "run",
+        &three,
+        &[(0, 1), (1, 2), (2, 3), (3, 1), (4, 2)],
+    )?;
+    let bursts =
+        r#""type":"multi_burst","pkts_per_burst":1,"count":0,"ibg":0.001,"rate":{"type":"pps","value":1000000000}"#;
+    let endless = [entry(alloc, 1, "", bursts)?];
+    assert_sent(
+        &rt,
+        alloc,
+        "run --limit 3",
+        &endless,
+        &[(0, 1), (2, 1), (4, 1)],
+    )?;
+    assert_sent(&rt, alloc, "run --limit 1", &endless, &[(0, 1)])
 }

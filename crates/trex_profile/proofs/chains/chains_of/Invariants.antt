@@ -1,9 +1,10 @@
-use Rattle.std.proofs.Common.{◌≡◌, ◌++◌, map, drop}
+use Rattle.std.proofs.Common.{◌≡◌, map, take}
 use Rattle.trex_sched.specs.Chain.{chain_of}
-use Rattle.trex_profile.specs.Chains.{chains_from, chains_of}
+use Rattle.trex_profile.specs.Chains.{chain_by}
 use Rattle.trex_profile.specs.Member.{member_stream}
+use Rattle.trex_profile.specs.Visits.{round_of}
 use Rattle.trex_profile.proofs.chains.chains_of.Given as goal
 
-abbrev pub invariant-loop-at : goal.invariant-loop-at
-invariant-loop-at l =
-    map chain_of l.chains.items ++ chains_from l.at (map member_stream (drop l.at l.members)) ≡ chains_of (map member_stream l.members)
+abbrev pub invariant-loop-start : goal.invariant-loop-start
+invariant-loop-start l =
+    map chain_of l.chains.items ≡ map (λ start. chain_by (map member_stream l.members) (round_of l.nexts start)) (take l.start-index l.firsts)

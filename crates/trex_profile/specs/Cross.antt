@@ -1,0 +1,43 @@
+-- The rules over several streams (own).
+use Rattle.std.specs.Prelude.{ℕ, Bool, false, nat_eq, List, [], ◌∷◌, take, Option, None, Some, is_none}
+use Rattle.std.specs.List.{list_any}
+use Rattle.trex_profile.specs.declared.rule.Rule.{Rule}
+use Rattle.trex_profile.specs.declared.rule.Rule.TheVariants.{DuplicateId, NoSuchStream, SharedStream}
+use Rattle.trex_profile.specs.declared.refusal.Refusal.{Refusal}
+use Rattle.trex_profile.specs.Order.{broken, first, first_each}
+use Rattle.trex_profile.specs.Refusal.{whole_stream, in_stream}
+use Rattle.trex_profile.specs.Stream.{Stream}
+use Rattle.trex_profile.specs.Links.{ids, place_of, links}
+use Rattle.trex_profile.specs.Visits.{reach_at, is_shared}
+use Rattle.trex_profile.specs.Chains.{starts}
+
+-- a rule about the stream at a position is broken where its test holds
+abbrev pub rule_at : Rule → ℕ → Bool → Option Refusal
+rule_at r position test = broken (in_stream position (whole_stream r)) test
+
+-- an earlier stream has the same id
+abbrev pub repeats_id : List ℕ → ℕ → ℕ → Bool
+repeats_id ids position id = list_any (nat_eq id) (take position ids)
+
+abbrev pub duplicate_refusal : List ℕ → ℕ → Stream → Option Refusal
+duplicate_refusal ids position s = rule_at DuplicateId position (repeats_id ids position s.id)
+
+-- no stream has the id
+abbrev pub is_lost : List ℕ → Option ℕ → Bool
+is_lost ids None = false
+is_lost ids (Some id) = is_none (place_of ids id)
+
+abbrev pub lost_refusal : List ℕ → ℕ → Stream → Option Refusal
+lost_refusal ids position s = rule_at NoSuchStream position (is_lost ids s.next)
+
+-- two different streams that start by themselves reach the stream
+abbrev pub shared_refusal : List (Option ℕ) → List ℕ → ℕ → Stream → Option Refusal
+shared_refusal links starts position s = rule_at SharedStream position (is_shared (reach_at links starts position))
+
+-- the rules over several streams, in their order
+unfoldable pub cross_rules : List Stream → Option Refusal
+cross_rules streams = first (
+    first_each (duplicate_refusal (ids streams)) 0 streams
+    ∷ first_each (lost_refusal (ids streams)) 0 streams
+    ∷ first_each (shared_refusal (links streams) (starts streams)) 0 streams
+    ∷ [])
