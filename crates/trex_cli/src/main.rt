@@ -4,8 +4,12 @@
 use std::env;
 use std::io::ErrorKind;
 use std::process::ExitCode;
+use trex_crew::Open;
 use trex_io::{StdSink, StdSource, write_all};
 use trex_top::{Status, trex_main};
+
+/// The most threads that the cores of a run work in.
+const WORKERS: usize = 8;
 
 fn main(rt: HostRuntime) -> ExitCode {
     let mut notes = StdSink::new(rt.stderr());
@@ -28,7 +32,16 @@ fn main(rt: HostRuntime) -> ExitCode {
     }
     let mut input = StdSource::new(rt.stdin());
     let mut out = StdSink::new(rt.stdout());
-    let status = trex_main(rt.alloc(), &words, &mut input, &mut out, &mut notes);
+    let mut gates = [Open; WORKERS];
+    let status = trex_main(
+        &rt,
+        rt.alloc(),
+        &words,
+        &mut input,
+        &mut out,
+        &mut notes,
+        &mut gates,
+    );
     ended(status)
 }
 

@@ -1,11 +1,10 @@
 -- How great a decimal is that was read.
-use Rattle.std.proofs.Common.{◌≡◌, ℕ, ◌<◌, ◌^◌, Bool, true, false, nat_lt, List, Option, Some, None, Result, Ok, Err, if◌then◌else◌, refl, arith}
+use Rattle.std.proofs.Common.{◌≡◌, ℕ, ◌<◌, ◌^◌, Bool, true, false, nat_lt, List, Option, Some, None, Ok, if◌then◌else◌, refl, arith}
 use Rattle.std.proofs.lemmas.Bool.Decides.{nat_tests}
 use Rattle.std.specs.Option.{ok_or}
 use Rattle.trex_decimal.specs.Decimal.{scaled_of, answer_of, floor_of}
 use Rattle.trex_decimal.specs.Grammar.{stop_of}
-use Rattle.trex_decimal.specs.declared.decimal.DecimalFault.{DecimalFault}
-use Rattle.trex_decimal.specs.declared.decimal.DecimalFault.TheVariants.{Syntax, TooLarge}
+use Rattle.trex_decimal.specs.declared.decimal.DecimalFault.TheVariants.{TooLarge}
 
 -- an answer is below 10 ^ 30
 answer_of-below : (stop : Option ℕ) (value n : ℕ) → answer_of stop value ≡ Ok n → n < 10 ^ 30

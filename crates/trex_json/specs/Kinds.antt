@@ -1,5 +1,6 @@
 -- The kinds of values that a profile's names have (own).
-use Rattle.std.specs.Prelude.{ℕ, ◌≤◌, ◌^◌, nat_le, bytes_eq, ℤ, pos, negsuc, zero, suc, codes, List, [], ◌∷◌, Option, None, Some, option_map, option_and_then, Result, Ok, Err, if◌then◌else◌}
+use Rattle.std.specs.Prelude.{ℕ, ◌-◌, ◌^◌, nat_eq, nat_le, bytes_eq, ℤ, pos, negsuc, zero, suc, codes, List, [], ◌∷◌, Option, None, Some, option_map, option_and_then, Result, Ok, Err, if◌then◌else◌}
+use Rattle.std.specs.List.{list_any}
 use Rattle.base64.specs.Engines.{standard}
 use Rattle.base64.specs.GeneralPurpose.{decoded_of}
 use Rattle.serde_json.specs.Data.{Data, null, boolean, number, string, array, object}
@@ -8,6 +9,12 @@ use Rattle.trex_decimal.specs.Decimal.{whole_of, signed_of, scaled_of}
 use Rattle.trex_decimal.specs.declared.decimal.DecimalFault.{DecimalFault}
 use Rattle.trex_profile.specs.declared.raw.RateKind.{RateKind}
 use Rattle.trex_profile.specs.declared.raw.RateKind.TheVariants.{Pps, BpsL1, BpsL2}
+use Rattle.trex_profile.specs.declared.raw.RawPlace.{RawPlace}
+use Rattle.trex_profile.specs.declared.raw.RawPlace.TheVariants.{At}
+use Rattle.trex_vars.specs.declared.spec.Op.{Op}
+use Rattle.trex_vars.specs.declared.spec.Op.TheVariants.{Inc, Dec, Random}
+use Rattle.trex_json.specs.declared.kinds.InstrWord.{InstrWord}
+use Rattle.trex_json.specs.declared.kinds.InstrWord.TheVariants.{FlowVar, RandLimit, Tuple, Write, WriteMask, FixIpv4, FixHw, Trim}
 use Rattle.trex_json.specs.declared.kinds.ModeWord.{ModeWord}
 use Rattle.trex_json.specs.declared.kinds.ModeWord.TheVariants.{Continuous, SingleBurst, MultiBurst}
 use Rattle.trex_json.specs.Json.{list_of}
@@ -82,15 +89,74 @@ rate_kind d = option_and_then rate_of_word (as_str d)
 abbrev pub latency_word : Data → Option (List ℕ)
 latency_word d = option_and_then (λ word. if bytes_eq word (codes "latency") then Some word else None) (as_str d)
 
--- an array of bytes, each a whole number from 0 to 255
-abbrev pub bytes_of : List Data → Option (List ℕ)
-bytes_of [] = Some []
-bytes_of (d ∷ ds) = option_and_then (λ b. option_map (λ bs. b ∷ bs) (bytes_of ds)) (whole 255 d)
+-- the numbers of an array, each a whole number from 0 to the greatest
+abbrev pub numbers_of : ℕ → List Data → Option (List ℕ)
+numbers_of greatest [] = Some []
+numbers_of greatest (d ∷ ds) = option_and_then (λ n. option_map (λ ns. n ∷ ns) (numbers_of greatest ds)) (whole greatest d)
 
--- bytes as a base64 text (RFC 4648, section 4), or else as an array of bytes
+-- bytes as a base64 text (RFC 4648, section 4), or else as an array of whole numbers from 0 to 255
 abbrev pub bytes_by : Option (List ℕ) → Option (List Data) → Option (List ℕ)
 bytes_by (Some text) items = decoded_of standard text
-bytes_by None items = option_and_then bytes_of items
+bytes_by None items = option_and_then (numbers_of 255) items
 
 abbrev pub bytes : Data → Option (List ℕ)
 bytes d = bytes_by (as_str d) (an_array d)
+
+-- the values of a list of variables: there is one, so none stands for an absent list
+abbrev pub values : Data → Option (Option (List ℕ))
+values d = option_map Some (option_and_then (numbers_of (2 ^ 64 - 1)) (an_array d))
+
+-- a number, where it is one of these
+abbrev pub one_of : List ℕ → ℕ → Option ℕ
+one_of numbers n = if list_any (nat_eq n) numbers then Some n else None
+
+-- a number of bytes in which a number is held
+abbrev pub a_size : Data → Option ℕ
+a_size d = option_and_then (one_of (1 ∷ 2 ∷ 4 ∷ 8 ∷ [])) (whole 8 d)
+
+-- what stands behind an IPv4 header: 11 for UDP, 13 for TCP, 17 for anything
+abbrev pub a_segment : Data → Option ℕ
+a_segment d = option_and_then (one_of (11 ∷ 13 ∷ 17 ∷ [])) (whole 17 d)
+
+-- a signed number
+abbrev pub a_signed : Data → Option ℤ
+a_signed d = option_and_then signed_of (as_str d)
+
+-- a number of bits, to the left where it is positive
+abbrev pub shift_of : ℤ → Option ℤ
+shift_of (pos n) = if nat_le n 63 then Some (pos n) else None
+shift_of (negsuc n) = if nat_le n 62 then Some (negsuc n) else None
+
+abbrev pub a_shift : Data → Option ℤ
+a_shift d = option_and_then shift_of (a_signed d)
+
+-- the byte at which a write begins
+abbrev pub a_place : Data → Option RawPlace
+a_place d = option_map At (whole (2 ^ 64 - 1) d)
+
+-- how a variable goes from packet to packet
+abbrev pub op_of_word : List ℕ → Option Op
+op_of_word word =
+    if bytes_eq word (codes "inc") then Some Inc
+    else if bytes_eq word (codes "dec") then Some Dec
+    else if bytes_eq word (codes "random") then Some Random
+    else None
+
+abbrev pub an_op : Data → Option Op
+an_op d = option_and_then op_of_word (as_str d)
+
+-- the word of an instruction
+abbrev pub instr_of_word : List ℕ → Option InstrWord
+instr_of_word word =
+    if bytes_eq word (codes "flow_var") then Some FlowVar
+    else if bytes_eq word (codes "flow_var_rand_limit") then Some RandLimit
+    else if bytes_eq word (codes "tuple_flow_var") then Some Tuple
+    else if bytes_eq word (codes "write_flow_var") then Some Write
+    else if bytes_eq word (codes "write_mask_flow_var") then Some WriteMask
+    else if bytes_eq word (codes "fix_checksum_ipv4") then Some FixIpv4
+    else if bytes_eq word (codes "fix_checksum_hw") then Some FixHw
+    else if bytes_eq word (codes "trim_pkt_size") then Some Trim
+    else None
+
+abbrev pub instr_word : Data → Option InstrWord
+instr_word d = option_and_then instr_of_word (as_str d)

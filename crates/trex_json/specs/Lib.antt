@@ -2,6 +2,7 @@ pub mod Json
 pub mod Kinds
 pub mod Names
 pub mod Rows
+pub mod Operands
 pub mod Shape
 pub mod Order
 pub mod Answer

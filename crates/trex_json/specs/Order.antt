@@ -1,13 +1,15 @@
 -- The rules on the shape of one entry, one a line, in the order in which they are looked at (own).
-use Rattle.std.specs.Prelude.{◌||◌, List, [], ◌∷◌, Option, is_none}
+use Rattle.std.specs.Prelude.{◌||◌, nat_lt, List, [], ◌∷◌, length, Option, is_none}
 use Rattle.serde_json.specs.Data.{Data}
 use Rattle.trex_profile.specs.declared.refusal.Breach.{Breach}
-use Rattle.trex_profile.specs.declared.rule.Rule.TheVariants.{BadEntry, BadStreamId, BadStream, BadEnabled, BadSelfStart, BadIsg, BadNext, BadActionCount, BadSeed, BadPacket, Unbuilt, BadBinary, BadMode, BadRate, BadCount, BadIbg, BadFlowStats, BadVm}
+use Rattle.trex_profile.specs.declared.rule.Rule.TheVariants.{BadEntry, BadStreamId, BadStream, BadEnabled, BadSelfStart, BadIsg, BadNext, BadActionCount, BadSeed, BadPacket, Unbuilt, BadBinary, BadMode, BadRate, BadCount, BadIbg, BadFlowStats, BadVm, TooManyInstructions}
+use Rattle.trex_profile.specs.Order.{first_each}
 use Rattle.trex_profile.specs.Refusal.{rule}
 use Rattle.trex_json.specs.Kinds.{an_object}
 use Rattle.trex_json.specs.Names.{wrong, value}
+use Rattle.trex_json.specs.Operands.{instr_rules}
 use Rattle.trex_json.specs.Rows as row
-use Rattle.trex_json.specs.Shape.{packet_wrong, unbuilt, rate_wrong, count_wrong, ibg_wrong, flow_wrong, vm_wrong, word_of}
+use Rattle.trex_json.specs.Shape.{packet_wrong, unbuilt, rate_wrong, count_wrong, ibg_wrong, flow_wrong, vm_wrong, items, word_of}
 
 -- the rules on an entry and on its stream
 abbrev pub rules_of : Data → Data → List (Option Breach)
@@ -30,6 +32,9 @@ rules_of entry stream =
     ∷ rule BadIbg (ibg_wrong (word_of stream) (value row.mode stream))
     ∷ rule BadFlowStats (flow_wrong stream)
     ∷ rule BadVm (vm_wrong stream)
+    ∷ rule TooManyInstructions (nat_lt 256 (length (items stream)))
+    -- BadInstruction and BadOperand, instruction by instruction
+    ∷ first_each (instr_rules (value row.seed stream)) 0 (items stream)
     ∷ []
 
 -- the same of an entry alone

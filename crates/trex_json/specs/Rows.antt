@@ -1,13 +1,19 @@
 -- The names of a profile: each with its kind and its default, or required (own). An absent object counts as null, of which
 -- each name is absent.
-use Rattle.std.specs.Prelude.{ℕ, ◌-◌, ◌^◌, Bool, true, false, List, [], codes, Option, None}
+use Rattle.std.specs.Prelude.{ℕ, ◌-◌, ◌^◌, ℤ, pos, Bool, true, false, List, [], codes, Option, None}
 use Rattle.serde_json.specs.Data.{Data, null}
-use Rattle.serde_json.specs.Find.{as_bool}
+use Rattle.serde_json.specs.Find.{as_bool, as_str}
 use Rattle.trex_profile.specs.declared.raw.RateKind.{RateKind}
 use Rattle.trex_profile.specs.declared.raw.RateKind.TheVariants.{Pps}
+use Rattle.trex_profile.specs.declared.raw.RawPlace.{RawPlace}
+use Rattle.trex_profile.specs.declared.raw.RawPlace.TheVariants.{At}
+use Rattle.trex_vars.specs.declared.spec.Op.{Op}
+use Rattle.trex_vars.specs.declared.spec.Op.TheVariants.{Inc}
+use Rattle.trex_json.specs.declared.kinds.InstrWord.{InstrWord}
+use Rattle.trex_json.specs.declared.kinds.InstrWord.TheVariants.{FixIpv4}
 use Rattle.trex_json.specs.declared.kinds.ModeWord.{ModeWord}
 use Rattle.trex_json.specs.declared.kinds.ModeWord.TheVariants.{Continuous}
-use Rattle.trex_json.specs.Kinds.{an_object, an_array, whole, scaled, decimal, next_id, mode_word, rate_kind, latency_word, bytes}
+use Rattle.trex_json.specs.Kinds.{an_object, an_array, whole, scaled, decimal, next_id, mode_word, rate_kind, latency_word, bytes, values, a_size, a_segment, a_signed, a_shift, a_place, an_op, instr_word}
 use Rattle.trex_json.specs.Names.{Row, optional, required}
 
 -- the names of an entry
@@ -94,3 +100,86 @@ flow_number = required (codes "stream_id") (whole 65535) 0
 -- the name of a stream's program
 abbrev pub instructions : Row (List Data)
 instructions = optional (codes "instructions") an_array []
+
+-- the word of an instruction
+abbrev pub instr_type : Row InstrWord
+instr_type = required (codes "type") instr_word FixIpv4
+
+-- the names of instructions
+abbrev pub name : Row (List ℕ)
+name = required (codes "name") as_str []
+
+abbrev pub size : Row ℕ
+size = required (codes "size") a_size 1
+
+abbrev pub op : Row Op
+op = required (codes "op") an_op Inc
+
+abbrev pub min_value : Row ℕ
+min_value = optional (codes "min_value") (whole (2 ^ 64 - 1)) 0
+
+-- the greatest number of so many bytes, where it is absent
+abbrev pub max_value : ℕ → Row ℕ
+max_value size = optional (codes "max_value") (whole (2 ^ 64 - 1)) (256 ^ size - 1)
+
+-- the least value, where it is absent
+abbrev pub init_value : ℕ → Row ℕ
+init_value min = optional (codes "init_value") (whole (2 ^ 64 - 1)) min
+
+abbrev pub step : Row ℕ
+step = optional (codes "step") (whole (2 ^ 64 - 1)) 1
+
+abbrev pub value_list : Row (Option (List ℕ))
+value_list = optional (codes "value_list") values None
+
+abbrev pub limit : Row ℕ
+limit = required (codes "limit") (whole (2 ^ 64 - 1)) 0
+
+-- the stream's seed, where it is absent
+abbrev pub own_seed : ℕ → Row ℕ
+own_seed seed = optional (codes "seed") (whole (2 ^ 64 - 1)) seed
+
+abbrev pub ip_min : Row ℕ
+ip_min = required (codes "ip_min") (whole 4294967295) 0
+
+abbrev pub ip_max : Row ℕ
+ip_max = required (codes "ip_max") (whole 4294967295) 0
+
+abbrev pub port_min : Row ℕ
+port_min = required (codes "port_min") (whole 65535) 0
+
+abbrev pub port_max : Row ℕ
+port_max = required (codes "port_max") (whole 65535) 0
+
+abbrev pub limit_flows : Row ℕ
+limit_flows = optional (codes "limit_flows") (whole 4294967295) 0
+
+abbrev pub write_offset : Row RawPlace
+write_offset = required (codes "pkt_offset") a_place (At 0)
+
+abbrev pub add_value : Row ℤ
+add_value = optional (codes "add_value") a_signed (pos 0)
+
+abbrev pub is_big_endian : Row Bool
+is_big_endian = optional (codes "is_big_endian") as_bool true
+
+abbrev pub cast_size : Row ℕ
+cast_size = required (codes "pkt_cast_size") a_size 1
+
+abbrev pub mask : Row ℕ
+mask = required (codes "mask") (whole (2 ^ 64 - 1)) 0
+
+abbrev pub shift : Row ℤ
+shift = optional (codes "shift") a_shift (pos 0)
+
+abbrev pub fix_offset : Row ℕ
+fix_offset = required (codes "pkt_offset") (whole (2 ^ 64 - 1)) 0
+
+abbrev pub l2_len : Row ℕ
+l2_len = required (codes "l2_len") (whole (2 ^ 64 - 1)) 0
+
+abbrev pub l3_len : Row ℕ
+l3_len = required (codes "l3_len") (whole (2 ^ 64 - 1)) 0
+
+abbrev pub l4_type : Row ℕ
+l4_type = required (codes "l4_type") a_segment 17

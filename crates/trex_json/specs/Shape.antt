@@ -1,20 +1,27 @@
 -- The rules on the shape of one entry, and what an entry says (own).
-use Rattle.std.specs.Prelude.{ℕ, ◌||◌, ◌&&◌, Bool, true, false, List, [], ◌∷◌, Option, None, Some, is_none, is_some, option_map, codes}
+use Rattle.std.specs.Prelude.{ℕ, ◌||◌, ◌&&◌, nat_lt, Bool, true, false, List, [], ◌∷◌, length, map, Option, None, Some, is_none, is_some, option_map, option_and_then, codes, if◌then◌else◌}
+use Rattle.std.specs.List.{list_any}
 use Rattle.serde_json.specs.Data.{Data}
+use Rattle.serde_json.specs.Find.{as_str}
+use Rattle.trex_decimal.specs.Decimal.{whole_of}
 use Rattle.trex_sched.specs.declared.mode.Mode.{Mode}
 use Rattle.trex_sched.specs.declared.mode.Mode.TheVariants.{Continuous, SingleBurst, MultiBurst}
 use Rattle.trex_profile.specs.declared.raw.RawRate.{RawRate}
 use Rattle.trex_profile.specs.declared.refusal.Breach.{Breach}
 use Rattle.trex_profile.specs.declared.refusal.Refusal.{Refusal}
-use Rattle.trex_profile.specs.declared.rule.Rule.TheVariants.{BadEntry, BadStreamId, BadStream, BadEnabled, BadSelfStart, BadIsg, BadNext, BadActionCount, BadSeed, BadPacket, Unbuilt, BadBinary, BadMode, BadRate, BadCount, BadIbg, BadFlowStats, BadVm}
-use Rattle.trex_profile.specs.Order.{first}
+use Rattle.trex_profile.specs.declared.rule.Rule.TheVariants.{BadEntry, BadStreamId, BadStream, BadEnabled, BadSelfStart, BadIsg, BadNext, BadActionCount, BadSeed, BadPacket, Unbuilt, BadBinary, BadMode, BadRate, BadCount, BadIbg, BadFlowStats, BadVm, TooManyInstructions}
+use Rattle.trex_profile.specs.Instruction.{Instruction}
+use Rattle.trex_profile.specs.Order.{first, first_each}
 use Rattle.trex_profile.specs.Refusal.{rule, in_stream}
 use Rattle.trex_profile.specs.Stream.{Stream}
+use Rattle.trex_json.specs.declared.kinds.InstrWord.{InstrWord}
+use Rattle.trex_json.specs.declared.kinds.InstrWord.TheVariants.{FlowVar as FlowVarWord, RandLimit as RandLimitWord, Tuple as TupleWord, Write as WriteWord, WriteMask as WriteMaskWord, FixIpv4 as FixIpv4Word, FixHw as FixHwWord, Trim as TrimWord}
 use Rattle.trex_json.specs.declared.kinds.ModeWord.{ModeWord}
 use Rattle.trex_json.specs.declared.kinds.ModeWord.TheVariants.{Continuous as ContinuousWord, SingleBurst as SingleBurstWord, MultiBurst as MultiBurstWord}
 use Rattle.trex_json.specs.declared.stream.Fields.{Fields}
 use Rattle.trex_json.specs.Kinds.{an_object}
 use Rattle.trex_json.specs.Names.{under, told, wrong, value}
+use Rattle.trex_json.specs.Operands.{instr_rules, instruction_of}
 use Rattle.trex_json.specs.Rows as row
 
 -- the rules on the plain names of a stream
@@ -57,17 +64,34 @@ packet_wrong stream =
     not_there false true = false
     not_there false false = true
 
--- there is an item
-abbrev pub some_item : List Data → Bool
-some_item [] = false
-some_item (d ∷ ds) = true
+-- the instructions of a stream
+abbrev pub items : Data → List Data
+items stream = value row.instructions (value row.vm stream)
 
--- a form that isn't read: layers, a flow, an instruction
+-- an instruction of that word writes a variable
+abbrev pub is_write : Option InstrWord → Bool
+is_write None = false
+is_write (Some FlowVarWord) = false
+is_write (Some RandLimitWord) = false
+is_write (Some TupleWord) = false
+is_write (Some WriteWord) = true
+is_write (Some WriteMaskWord) = true
+is_write (Some FixIpv4Word) = false
+is_write (Some FixHwWord) = false
+is_write (Some TrimWord) = false
+
+-- there is a text that writes no whole number
+abbrev pub is_no_number : Option (List ℕ) → Bool
+is_no_number None = false
+is_no_number (Some text) = is_none (whole_of text)
+
+-- an instruction writes at the name of a field
+abbrev pub names_field : Data → Bool
+names_field d = is_write (told row.instr_type d) && is_no_number (option_and_then as_str (under (codes "pkt_offset") d))
+
+-- a form that isn't read: layers, or a write at the name of a field
 unfoldable pub unbuilt : Data → Data → Bool
-unbuilt packet stream =
-    is_none (under (codes "binary") packet)
-    || value row.flow_enabled (value row.flow_stats stream)
-    || some_item (value row.instructions (value row.vm stream))
+unbuilt packet stream = is_none (under (codes "binary") packet) || list_any names_field (items stream)
 
 -- a rate, its type or its value is wrong
 unfoldable pub rate_wrong : Data → Bool
@@ -124,6 +148,24 @@ flow_wrong stream =
 unfoldable pub vm_wrong : Data → Bool
 vm_wrong stream = wrong row.vm stream || wrong row.instructions (value row.vm stream)
 
+-- the flow number of a stream that has a flow
+abbrev pub flow_of : Data → Option ℕ
+flow_of stream =
+    if value row.flow_enabled (value row.flow_stats stream) then Some (value row.flow_number (value row.flow_stats stream)) else None
+
+-- the rules on a stream's flow and instructions
+unfoldable pub work_rules : ℕ → Data → Option Breach
+work_rules seed stream = first (
+    rule BadFlowStats (flow_wrong stream)
+    ∷ rule BadVm (vm_wrong stream)
+    ∷ rule TooManyInstructions (nat_lt 256 (length (items stream)))
+    ∷ first_each (instr_rules seed) 0 (items stream)
+    ∷ [])
+
+-- the instructions of a stream of that seed
+abbrev pub instrs_of : ℕ → Data → List Instruction
+instrs_of seed stream = map (instruction_of seed) (items stream)
+
 -- the rules on a stream
 unfoldable pub stream_rules : Data → Option Breach
 stream_rules stream = first (
@@ -132,12 +174,11 @@ stream_rules stream = first (
     ∷ rule Unbuilt (unbuilt (value row.packet stream) stream)
     ∷ rule BadBinary (wrong row.binary (value row.packet stream))
     ∷ mode_rules stream
-    ∷ rule BadFlowStats (flow_wrong stream)
-    ∷ rule BadVm (vm_wrong stream)
+    ∷ work_rules (value row.seed stream) stream
     ∷ [])
 
 -- a stream of that id
-abbrev pub stream_of : ℕ → Data → Stream
+unfoldable pub stream_of : ℕ → Data → Stream
 stream_of id stream = record {
   id = id;
   enabled = value row.enabled stream;
@@ -149,6 +190,8 @@ stream_of id stream = record {
   template = value row.binary (value row.packet stream);
   rate = rate (value row.mode stream);
   mode = counted (word_of stream) (value row.mode stream);
+  flow = flow_of stream;
+  instrs = instrs_of (value row.seed stream) stream;
 }
 
 -- the rules on an entry

@@ -1,9 +1,8 @@
 -- The verdict on a profile's text: the first rule that it breaks, or its streams (own).
-use Rattle.std.specs.Prelude.{◌≡◌, ℕ, nat_lt, List, [], ◌∷◌, length, map, Option, is_none, option_map, option_and_then, unwrap_or, Result, Ok, Err}
+use Rattle.std.specs.Prelude.{ℕ, nat_lt, List, [], ◌∷◌, length, map, Option, is_none, option_and_then, unwrap_or, Result}
 use Rattle.serde_json.specs.Data.{Data}
 use Rattle.trex_profile.specs.declared.rule.Rule.TheVariants.{TooLong, NotJson, NotArray, TooManyStreams}
 use Rattle.trex_profile.specs.declared.refusal.Refusal.{Refusal}
-use Rattle.trex_profile.specs.declared.refusal.Breach.{Breach}
 use Rattle.trex_profile.specs.Order.{first, first_each, unless, ◌>>=◌}
 use Rattle.trex_profile.specs.Refusal.{document}
 use Rattle.trex_profile.specs.Admission.{admitted}

@@ -1,8 +1,8 @@
-ghost use Rattle.std.specs.Prelude.{◌≡◌, IfOk, map, None, option_map};
+ghost use Rattle.std.specs.Prelude.{◌≡◌, ◌-◌, ◌^◌, IfOk, map, None, Some, option_map};
 ghost use Rattle.base64.specs.Engines.{standard};
 ghost use Rattle.base64.specs.GeneralPurpose.{decoded_of};
 ghost use Rattle.serde_json.specs.View.{view};
-ghost use Rattle.trex_json.specs.Kinds.{bytes_of, bytes};
+ghost use Rattle.trex_json.specs.Kinds.{numbers_of, bytes, values};
 ghost use Rattle.trex_json.specs.Names.{asked};
 
 use crate::kinds::{an_array, whole};
@@ -27,7 +27,7 @@ fn base64_bytes(alloc: Global, text: &str) -> Result<Option<Vec<u8>>, Memory>
 
 /// The bytes of an array, where each item is a whole number from 0 to 255.
 fn array_bytes(alloc: Global, items: &[Value]) -> Result<Option<Vec<u8>>, Memory>
-    ensures { IfOk result (λ bytes. option_map (λ v. v.items) bytes ≡ bytes_of (map view items.now)) }
+    ensures { IfOk result (λ bytes. option_map (λ v. v.items) bytes ≡ numbers_of 255 (map view items.now)) }
 {
     let mut bytes = Vec::new(alloc);
     for item in items {
@@ -62,6 +62,40 @@ pub(crate) fn bytes_told(
 {
     match under(object, name) {
         Some(value) => bytes_of(alloc, value),
+        None => Ok(None),
+    }
+}
+
+/// The numbers of an array, where each item is a whole number.
+fn array_values(alloc: Global, items: &[Value]) -> Result<Option<Vec<u64>>, Memory>
+    ensures { IfOk result (λ told. option_map (λ v. v.items) told ≡ numbers_of (2 ^ 64 - 1) (map view items.now)) }
+{
+    let mut values = Vec::new(alloc);
+    for item in items {
+        match whole(item, u64::MAX) {
+            Some(value) => values.push(value)?,
+            None => return Ok(None),
+        }
+    }
+    Ok(Some(values))
+}
+
+/// The values under a name, none where it is absent.
+pub(crate) fn values_told(
+    alloc: Global,
+    object: &Value,
+    name: &str,
+) -> Result<Option<Option<Vec<u64>>>, Memory>
+    ensures { IfOk result (λ told. option_map (option_map (λ v. v.items)) told ≡ asked name.now values (Some None) (view object.now)) }
+{
+    let Some(value) = under(object, name) else {
+        return Ok(Some(None));
+    };
+    let Some(items) = an_array(value) else {
+        return Ok(None);
+    };
+    match array_values(alloc, items)? {
+        Some(values) => Ok(Some(Some(values))),
         None => Ok(None),
     }
 }

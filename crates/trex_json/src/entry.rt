@@ -2,28 +2,29 @@ ghost use Rattle.std.specs.Prelude.{◌≡◌, ◌≤◌, All, IfOk, length, map
 ghost use Rattle.serde_json.specs.View.{view};
 ghost use Rattle.trex_profile.specs.Order.{first_each, unless};
 ghost use Rattle.trex_profile.specs.Stream.{raw_stream, IsRawStream};
-ghost use Rattle.trex_json.specs.Answer.{Gives, Reads};
+ghost use Rattle.trex_profile.specs.Answer.{Gives};
+ghost use Rattle.trex_json.specs.Answer.{Reads};
 ghost use Rattle.trex_json.specs.Shape.{entry_rules, entry_stream, shape_refusal};
 
-use crate::fault::{ProfileFault, ShapeFault};
+use crate::fault::ProfileFault;
 use crate::kinds::an_object;
 use crate::names::{object_told, whole_told};
 use crate::stream::stream_of;
 use serde_json::Value;
 use std::alloc::Global;
-use trex_profile::{RawStream, Rule};
+use trex_profile::{RawStream, Rule, StreamFault};
 
 /// The stream of an entry, its defaults filled in.
 #[tactic(auto, unfolding(crate::specs::Shape::entry_rules))]
-fn entry_of(alloc: Global, entry: &Value) -> Result<RawStream, ShapeFault>
+fn entry_of(alloc: Global, entry: &Value) -> Result<RawStream, StreamFault>
     ensures value { Gives raw_stream result (unless (entry_rules (view entry.now)) (entry_stream (view entry.now))) }
     ensures ranges { IfOk result IsRawStream }
 {
-    let entry = an_object(entry).ok_or(ShapeFault::of_stream(Rule::BadEntry))?;
-    let id = whole_told(entry, "stream_id", 2_147_483_647, None).ok_or(ShapeFault::of_stream(
+    let entry = an_object(entry).ok_or(StreamFault::of_stream(Rule::BadEntry))?;
+    let id = whole_told(entry, "stream_id", 2_147_483_647, None).ok_or(StreamFault::of_stream(
         Rule::BadStreamId,
     ))?;
-    let stream = object_told(entry, "stream").ok_or(ShapeFault::of_stream(Rule::BadStream))?;
+    let stream = object_told(entry, "stream").ok_or(StreamFault::of_stream(Rule::BadStream))?;
     stream_of(alloc, id as u32, stream)
 }
 
@@ -39,7 +40,7 @@ pub(crate) fn each_entry(alloc: Global, entries: &[Value]) -> Result<Vec<RawStre
     for (at, entry) in entries.iter().enumerate() {
         match entry_of(alloc, entry) {
             Ok(stream) => streams.push(stream)?,
-            Err(fault) => return Err(fault.in_stream(at as u32)),
+            Err(fault) => return Err(ProfileFault::from(fault.in_stream(at as u32))),
         }
     }
     Ok(streams)

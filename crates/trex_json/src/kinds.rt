@@ -1,11 +1,13 @@
-ghost use Rattle.std.specs.Prelude.{◌≡◌, ◌≤◌, ◌<◌, ◌^◌, IfSome, option_map, map};
+ghost use Rattle.std.specs.Prelude.{◌≡◌, ◌⊎◌, ◌≤◌, ◌<◌, ◌^◌, pos, negsuc, ◌≤ℤ◌, IfSome, option_map, map};
 ghost use Rattle.std.specs.Option.{ForSome};
 ghost use Rattle.serde_json.specs.View.{view};
+ghost use Rattle.trex_fields.specs.Bytes.{IsSize};
 ghost use Rattle.serde_json.specs.Find.{as_bool};
-ghost use Rattle.trex_json.specs.Kinds.{an_object, an_array, at_most, whole, scaled, decimal, id_of, next_id, mode_of_word, mode_word, rate_of_word, rate_kind, latency_word};
+ghost use Rattle.trex_json.specs.Kinds.{an_object, an_array, at_most, whole, scaled, decimal, id_of, next_id, mode_of_word, mode_word, rate_of_word, rate_kind, latency_word, a_size, a_segment, a_signed, shift_of, a_shift, a_place, an_op, instr_word};
 
 use serde_json::Value;
-use trex_profile::RateKind;
+use trex_profile::{RateKind, RawPlace};
+use trex_vars::Op;
 
 /// The word of a mode.
 #[derive(Clone, Copy, Debug, PartialEq, Eq)]
@@ -13,6 +15,19 @@ pub(crate) enum ModeWord {
     Continuous,
     SingleBurst,
     MultiBurst,
+}
+
+/// The word of an instruction.
+#[derive(Clone, Copy, Debug, PartialEq, Eq)]
+pub(crate) enum InstrWord {
+    FlowVar,
+    RandLimit,
+    Tuple,
+    Write,
+    WriteMask,
+    FixIpv4,
+    FixHw,
+    Trim,
 }
 
 /// The value, where it is an object.
@@ -120,4 +135,92 @@ pub(crate) fn latency_word(value: &Value) -> Option<&str>
 {
     let word = value.as_str()?;
     if word == "latency" { Some(word) } else { None }
+}
+
+/// A number of bytes in which a number is held: 1, 2, 4 or 8.
+pub(crate) fn a_size(value: &Value) -> Option<u8>
+    ensures value { result ≡ a_size (view value.now) }
+    ensures within { IfSome result IsSize }
+{
+    let n = whole(value, 8)?;
+    if matches!(n, 1 | 2 | 4 | 8) {
+        Some(n as u8)
+    } else {
+        None
+    }
+}
+
+/// What stands behind an IPv4 header: 11, 13 or 17.
+pub(crate) fn a_segment(value: &Value) -> Option<u8>
+    ensures value { result ≡ a_segment (view value.now) }
+    ensures within { IfSome result (λ n. (n ≡ 11) ⊎ ((n ≡ 13) ⊎ (n ≡ 17))) }
+{
+    let n = whole(value, 17)?;
+    if matches!(n, 11 | 13 | 17) {
+        Some(n as u8)
+    } else {
+        None
+    }
+}
+
+/// A signed number.
+pub(crate) fn a_signed(value: &Value) -> Option<i64>
+    ensures { result ≡ a_signed (view value.now) }
+{
+    trex_decimal::signed(value.as_str()?)
+}
+
+/// The number of bits that a signed number gives, from -63 to 63.
+fn shift_of(n: i64) -> Option<i8>
+    ensures value { result ≡ shift_of n }
+    ensures within { IfSome result (λ n. (negsuc 62 ≤ℤ n) × (n ≤ℤ pos 63)) }
+{
+    if n < -63 || n > 63 {
+        return None;
+    }
+    Some(n as i8)
+}
+
+/// A number of bits, from -63 to 63, to the left where it is positive.
+pub(crate) fn a_shift(value: &Value) -> Option<i8>
+    ensures value { result ≡ a_shift (view value.now) }
+    ensures within { IfSome result (λ n. (negsuc 62 ≤ℤ n) × (n ≤ℤ pos 63)) }
+{
+    shift_of(a_signed(value)?)
+}
+
+/// The byte at which a write begins.
+pub(crate) fn a_place(value: &Value) -> Option<RawPlace>
+    ensures { result ≡ a_place (view value.now) }
+{
+    Some(RawPlace::At(whole(value, u64::MAX)?))
+}
+
+/// How a variable goes from packet to packet.
+pub(crate) fn an_op(value: &Value) -> Option<Op>
+    ensures { result ≡ an_op (view value.now) }
+{
+    match value.as_str()? {
+        "inc" => Some(Op::Inc),
+        "dec" => Some(Op::Dec),
+        "random" => Some(Op::Random),
+        _ => None,
+    }
+}
+
+/// The word of an instruction.
+pub(crate) fn instr_word(value: &Value) -> Option<InstrWord>
+    ensures { result ≡ instr_word (view value.now) }
+{
+    match value.as_str()? {
+        "flow_var" => Some(InstrWord::FlowVar),
+        "flow_var_rand_limit" => Some(InstrWord::RandLimit),
+        "tuple_flow_var" => Some(InstrWord::Tuple),
+        "write_flow_var" => Some(InstrWord::Write),
+        "write_mask_flow_var" => Some(InstrWord::WriteMask),
+        "fix_checksum_ipv4" => Some(InstrWord::FixIpv4),
+        "fix_checksum_hw" => Some(InstrWord::FixHw),
+        "trim_pkt_size" => Some(InstrWord::Trim),
+        _ => None,
+    }
 }

@@ -4,6 +4,7 @@
 mod binary;
 mod entry;
 mod fault;
+mod instr;
 mod kinds;
 mod mode;
 mod names;
@@ -15,5 +16,7 @@ pub use fault::ProfileFault;
 pub use order::shape_rules_in_order;
 pub use reading::{LONGEST_TEXT, read_profile};
 
+#[cfg(test)]
+mod instr_tests;
 #[cfg(test)]
 mod tests;

@@ -2,17 +2,16 @@ ghost use Rattle.std.specs.Prelude.{◌≡◌, ◌≤◌, ◌<◌, ◌^◌, None
 ghost use Rattle.serde_json.specs.View.{view};
 ghost use Rattle.trex_profile.specs.Order.{unless};
 ghost use Rattle.trex_profile.specs.Stream.{HasGap};
-ghost use Rattle.trex_json.specs.Answer.{Gives};
+ghost use Rattle.trex_profile.specs.Answer.{Gives};
 ghost use Rattle.trex_json.specs.Kinds.{whole};
 ghost use Rattle.trex_json.specs.Names.{asked, value};
 ghost use Rattle.trex_json.specs.Rows as row;
 ghost use Rattle.trex_json.specs.Shape.{rate_wrong, rate, count_rules, counted, mode_rules, word_of};
 
-use crate::fault::ShapeFault;
 use crate::kinds::ModeWord;
 use crate::names::{gap_told, millionths_told, mode_told, object_told, rate_told, whole_told};
 use serde_json::Value;
-use trex_profile::{RawRate, Rule};
+use trex_profile::{RawRate, Rule, StreamFault};
 use trex_sched::Mode;
 
 /// The greatest packet or burst count.
@@ -43,15 +42,15 @@ fn count_told(mode: &Value, name: &str) -> Option<u32>
 
 /// The packets of a multi-burst.
 #[tactic(auto, unfolding(crate::specs::Shape::count_rules))]
-fn multi_burst(mode: &Value) -> Result<Mode, ShapeFault>
+fn multi_burst(mode: &Value) -> Result<Mode, StreamFault>
     ensures value { Gives (λ m. m) result (unless (count_rules ModeWord.MultiBurst (view mode.now)) (counted ModeWord.MultiBurst (view mode.now))) }
     ensures gap { IfOk result HasGap }
 {
-    let per_burst = count_told(mode, "pkts_per_burst").ok_or(ShapeFault::of_stream(
+    let per_burst = count_told(mode, "pkts_per_burst").ok_or(StreamFault::of_stream(
         Rule::BadCount,
     ))?;
-    let count = count_told(mode, "count").ok_or(ShapeFault::of_stream(Rule::BadCount))?;
-    let ibg = gap_told(mode, "ibg", LONGEST_GAP).ok_or(ShapeFault::of_stream(Rule::BadIbg))?;
+    let count = count_told(mode, "count").ok_or(StreamFault::of_stream(Rule::BadCount))?;
+    let ibg = gap_told(mode, "ibg", LONGEST_GAP).ok_or(StreamFault::of_stream(Rule::BadIbg))?;
     Ok(Mode::MultiBurst {
         per_burst,
         ibg,
@@ -61,14 +60,14 @@ fn multi_burst(mode: &Value) -> Result<Mode, ShapeFault>
 
 /// How a mode of that word sends its packets.
 #[tactic(auto, unfolding(crate::specs::Shape::count_rules))]
-fn counted(word: ModeWord, mode: &Value) -> Result<Mode, ShapeFault>
+fn counted(word: ModeWord, mode: &Value) -> Result<Mode, StreamFault>
     ensures value { Gives (λ m. m) result (unless (count_rules word (view mode.now)) (counted word (view mode.now))) }
     ensures gap { IfOk result HasGap }
 {
     match word {
         ModeWord::Continuous => Ok(Mode::Continuous),
         ModeWord::SingleBurst => {
-            let total = count_told(mode, "total_pkts").ok_or(ShapeFault::of_stream(
+            let total = count_told(mode, "total_pkts").ok_or(StreamFault::of_stream(
                 Rule::BadCount,
             ))?;
             Ok(Mode::SingleBurst { total })
@@ -79,15 +78,15 @@ fn counted(word: ModeWord, mode: &Value) -> Result<Mode, ShapeFault>
 
 /// The rate and the mode of a stream.
 #[tactic(auto, unfolding(crate::specs::Shape::mode_rules))]
-pub(crate) fn mode_of(stream: &Value) -> Result<(RawRate, Mode), ShapeFault>
+pub(crate) fn mode_of(stream: &Value) -> Result<(RawRate, Mode), StreamFault>
     ensures value { Gives (λ p. p) result (unless (mode_rules (view stream.now))
         (rate (value row.mode (view stream.now)), counted (word_of (view stream.now)) (value row.mode (view stream.now)))) }
     ensures rate { IfOk result (λ p. p.0.value < 10 ^ 30) }
     ensures gap { IfOk result (λ p. HasGap p.1) }
 {
-    let mode = object_told(stream, "mode").ok_or(ShapeFault::of_stream(Rule::BadMode))?;
-    let word = mode_told(mode, "type").ok_or(ShapeFault::of_stream(Rule::BadMode))?;
-    let rate = rate_of(mode).ok_or(ShapeFault::of_stream(Rule::BadRate))?;
+    let mode = object_told(stream, "mode").ok_or(StreamFault::of_stream(Rule::BadMode))?;
+    let word = mode_told(mode, "type").ok_or(StreamFault::of_stream(Rule::BadMode))?;
+    let rate = rate_of(mode).ok_or(StreamFault::of_stream(Rule::BadRate))?;
     let times = counted(word, mode)?;
     Ok((rate, times))
 }

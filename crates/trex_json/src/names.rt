@@ -1,13 +1,15 @@
-ghost use Rattle.std.specs.Prelude.{◌≡◌, ◌≤◌, ◌<◌, ◌^◌, Option, None, Some, IfSome, option_map, map};
+ghost use Rattle.std.specs.Prelude.{◌≡◌, ◌⊎◌, ◌≤◌, ◌<◌, ◌^◌, pos, negsuc, ◌≤ℤ◌, Option, None, Some, IfSome, option_map, map};
 ghost use Rattle.std.specs.Option.{ForSome};
 ghost use Rattle.serde_json.specs.View.{view};
-ghost use Rattle.serde_json.specs.Find.{as_bool};
-ghost use Rattle.trex_json.specs.Kinds.{an_object, an_array, whole, scaled, decimal, next_id, mode_word, rate_kind, latency_word};
+ghost use Rattle.serde_json.specs.Find.{as_bool, as_str};
+ghost use Rattle.trex_fields.specs.Bytes.{IsSize};
+ghost use Rattle.trex_json.specs.Kinds.{an_object, an_array, whole, scaled, decimal, next_id, mode_word, rate_kind, latency_word, a_size, a_segment, a_signed, a_shift, a_place, an_op, instr_word};
 ghost use Rattle.trex_json.specs.Names.{under, asked};
 
-use crate::kinds::{self, ModeWord};
+use crate::kinds::{self, InstrWord, ModeWord};
 use serde_json::Value;
-use trex_profile::RateKind;
+use trex_profile::{RateKind, RawPlace};
+use trex_vars::Op;
 
 /// What stands under a name of an object. A null counts as absent.
 pub(crate) fn under<'v>(object: &'v Value, name: &str) -> Option<&'v Value>
@@ -102,4 +104,69 @@ pub(crate) fn latency_told<'v>(object: &'v Value, name: &str) -> Option<&'v str>
     ensures { option_map (λ word. word.now) result ≡ asked name.now latency_word None (view object.now) }
 {
     kinds::latency_word(under(object, name)?)
+}
+
+/// The text under a name.
+pub(crate) fn text_told<'v>(object: &'v Value, name: &str) -> Option<&'v str>
+    ensures { option_map (λ text. text.now) result ≡ asked name.now as_str None (view object.now) }
+{
+    under(object, name)?.as_str()
+}
+
+/// The number of bytes under a name: 1, 2, 4 or 8.
+pub(crate) fn size_told(object: &Value, name: &str) -> Option<u8>
+    ensures value { result ≡ asked name.now a_size None (view object.now) }
+    ensures within { IfSome result IsSize }
+{
+    kinds::a_size(under(object, name)?)
+}
+
+/// What stands behind an IPv4 header, under a name: 11, 13 or 17.
+pub(crate) fn segment_told(object: &Value, name: &str) -> Option<u8>
+    ensures value { result ≡ asked name.now a_segment None (view object.now) }
+    ensures within { IfSome result (λ n. (n ≡ 11) ⊎ ((n ≡ 13) ⊎ (n ≡ 17))) }
+{
+    kinds::a_segment(under(object, name)?)
+}
+
+/// The signed number under a name, or 0.
+pub(crate) fn signed_told(object: &Value, name: &str) -> Option<i64>
+    ensures { result ≡ asked name.now a_signed (Some (pos 0)) (view object.now) }
+{
+    match under(object, name) {
+        None => Some(0),
+        Some(value) => kinds::a_signed(value),
+    }
+}
+
+/// The number of bits under a name, from -63 to 63, or 0.
+pub(crate) fn shift_told(object: &Value, name: &str) -> Option<i8>
+    ensures value { result ≡ asked name.now a_shift (Some (pos 0)) (view object.now) }
+    ensures within { IfSome result (λ n. (negsuc 62 ≤ℤ n) × (n ≤ℤ pos 63)) }
+{
+    match under(object, name) {
+        None => Some(0),
+        Some(value) => kinds::a_shift(value),
+    }
+}
+
+/// The byte at which a write begins, under a name.
+pub(crate) fn place_told(object: &Value, name: &str) -> Option<RawPlace>
+    ensures { result ≡ asked name.now a_place None (view object.now) }
+{
+    kinds::a_place(under(object, name)?)
+}
+
+/// How a variable goes from packet to packet, under a name.
+pub(crate) fn op_told(object: &Value, name: &str) -> Option<Op>
+    ensures { result ≡ asked name.now an_op None (view object.now) }
+{
+    kinds::an_op(under(object, name)?)
+}
+
+/// The word of an instruction under a name.
+pub(crate) fn instr_told(object: &Value, name: &str) -> Option<InstrWord>
+    ensures { result ≡ asked name.now instr_word None (view object.now) }
+{
+    kinds::instr_word(under(object, name)?)
 }

@@ -1,24 +1,29 @@
-ghost use Rattle.std.specs.Prelude.{◌≡◌, ◌≤◌, ◌^◌, None, Some, IfOk, option_map, if◌then◌else◌};
+ghost use Rattle.std.specs.Prelude.{◌≡◌, ℕ, ◌≤◌, ◌^◌, List, length, map, All, Option, None, Some, IfOk, option_map, if◌then◌else◌};
+ghost use Rattle.std.specs.List.{list_any};
 ghost use Rattle.std.specs.Option.{ForSome};
 ghost use Rattle.serde_json.specs.View.{view};
+ghost use Rattle.trex_profile.specs.Instruction.{Instruction, instruction, IsRawInstr};
 ghost use Rattle.trex_profile.specs.Order.{unless};
 ghost use Rattle.trex_profile.specs.Stream.{raw_stream, IsRawStream};
-ghost use Rattle.trex_json.specs.Answer.{Gives};
+ghost use Rattle.trex_profile.specs.Answer.{Gives};
 ghost use Rattle.trex_json.specs.Names.{value};
 ghost use Rattle.trex_json.specs.Rows as row;
-ghost use Rattle.trex_json.specs.Shape.{field_rules, fields, packet_wrong, some_item, unbuilt, flow_wrong, vm_wrong, stream_rules, stream_of};
+ghost use Rattle.trex_json.specs.Shape.{field_rules, fields, packet_wrong, items, names_field, unbuilt, flow_wrong, flow_of, vm_wrong, instrs_of, work_rules, stream_rules, stream_of};
 
 use crate::binary::bytes_told;
-use crate::fault::ShapeFault;
+use crate::instr::{each_instr, name_fields};
 use crate::kinds::{an_array, an_object};
 use crate::mode::mode_of;
 use crate::names::{bool_told, gap_told, latency_told, next_told, object_told, under, whole_told};
 use serde_json::Value;
 use std::alloc::Global;
-use trex_profile::{RawStream, Rule};
+use trex_profile::{RawInstr, RawStream, Rule, StreamFault};
 
 /// The greatest gap, in nanoseconds.
 const LONGEST_GAP: u64 = 1_000_000_000_000_000_000;
+
+/// The greatest number of instructions of a stream.
+const MOST_INSTRUCTIONS: usize = 256;
 
 /// The plain names of a stream.
 #[derive(Clone, Copy, Debug, PartialEq, Eq)]
@@ -33,23 +38,23 @@ pub(crate) struct Fields {
 
 /// The plain names of a stream, each default filled in.
 #[tactic(auto, unfolding(crate::specs::Shape::field_rules))]
-fn fields_of(stream: &Value) -> Result<Fields, ShapeFault>
+fn fields_of(stream: &Value) -> Result<Fields, StreamFault>
     ensures value { Gives (λ f. f) result (unless (field_rules (view stream.now)) (fields (view stream.now))) }
     ensures gap { IfOk result (λ f. f.isg ≤ 10 ^ 18) }
     ensures next { IfOk result (λ f. ForSome f.next (λ id. id ≤ 2147483647)) }
 {
-    let enabled = bool_told(stream, "enabled", true).ok_or(ShapeFault::of_stream(
+    let enabled = bool_told(stream, "enabled", true).ok_or(StreamFault::of_stream(
         Rule::BadEnabled,
     ))?;
-    let self_start = bool_told(stream, "self_start", true).ok_or(ShapeFault::of_stream(
+    let self_start = bool_told(stream, "self_start", true).ok_or(StreamFault::of_stream(
         Rule::BadSelfStart,
     ))?;
-    let isg = gap_told(stream, "isg", LONGEST_GAP).ok_or(ShapeFault::of_stream(Rule::BadIsg))?;
-    let next = next_told(stream, "next_stream_id").ok_or(ShapeFault::of_stream(Rule::BadNext))?;
+    let isg = gap_told(stream, "isg", LONGEST_GAP).ok_or(StreamFault::of_stream(Rule::BadIsg))?;
+    let next = next_told(stream, "next_stream_id").ok_or(StreamFault::of_stream(Rule::BadNext))?;
     let action_count = whole_told(stream, "action_count", 4_294_967_295, Some(0)).ok_or(
-        ShapeFault::of_stream(Rule::BadActionCount),
+        StreamFault::of_stream(Rule::BadActionCount),
     )?;
-    let seed = whole_told(stream, "random_seed", u64::MAX, Some(0)).ok_or(ShapeFault::of_stream(
+    let seed = whole_told(stream, "random_seed", u64::MAX, Some(0)).ok_or(StreamFault::of_stream(
         Rule::BadSeed,
     ))?;
     Ok(Fields {
@@ -76,29 +81,28 @@ fn packet_of(stream: &Value) -> Option<&Value>
     }
 }
 
-/// Whether the flow of a stream is enabled.
-fn has_flow(stream: &Value) -> bool
-    ensures { result ≡ value row.flow_enabled (value row.flow_stats (view stream.now)) }
+/// The instructions of a stream, where its program is of its kind: none where it has no program.
+#[tactic(auto, unfolding(crate::specs::Shape::vm_wrong))]
+fn items_of(stream: &Value) -> Option<&[Value]>
+    ensures { option_map (λ items. map view items.now) result ≡ (if vm_wrong (view stream.now) then None else Some (items (view stream.now))) }
 {
-    match object_told(stream, "flow_stats") {
-        None => false,
-        Some(flow) => bool_told(flow, "enabled", false).unwrap_or(false),
+    let Some(vm) = under(stream, "vm") else {
+        return Some(&[]);
+    };
+    let vm = an_object(vm)?;
+    match under(vm, "instructions") {
+        None => Some(&[]),
+        Some(instructions) => an_array(instructions),
     }
 }
 
-/// Whether a stream has an instruction.
-fn has_instructions(stream: &Value) -> bool
-    ensures { result ≡ some_item (value row.instructions (value row.vm (view stream.now))) }
+/// Whether an instruction of a stream writes at the name of a field.
+fn names_fields(stream: &Value) -> bool
+    ensures { result ≡ list_any names_field (items (view stream.now)) }
 {
-    let Some(vm) = object_told(stream, "vm") else {
-        return false;
-    };
-    let Some(instructions) = under(vm, "instructions") else {
-        return false;
-    };
-    match an_array(instructions) {
+    match items_of(stream) {
+        Some(items) => name_fields(items),
         None => false,
-        Some(items) => !items.is_empty(),
     }
 }
 
@@ -107,69 +111,67 @@ fn has_instructions(stream: &Value) -> bool
 fn is_unbuilt(packet: &Value, stream: &Value) -> bool
     ensures { result ≡ unbuilt (view packet.now) (view stream.now) }
 {
-    under(packet, "binary").is_none() || has_flow(stream) || has_instructions(stream)
+    under(packet, "binary").is_none() || names_fields(stream)
 }
 
-/// Whether the flow of a stream is wrong.
+/// The flow number of a stream, where its flow is of its kind: none where it has no flow.
 #[tactic(auto, unfolding(crate::specs::Shape::flow_wrong))]
-fn is_flow_wrong(stream: &Value) -> bool
-    ensures { result ≡ flow_wrong (view stream.now) }
+fn flow_of(stream: &Value) -> Option<Option<u16>>
+    ensures { result ≡ (if flow_wrong (view stream.now) then None else Some (flow_of (view stream.now))) }
 {
     let Some(flow) = under(stream, "flow_stats") else {
-        return false;
+        return Some(None);
     };
-    let Some(flow) = an_object(flow) else {
-        return true;
-    };
-    match bool_told(flow, "enabled", false) {
-        None => true,
-        Some(false) => false,
-        Some(true) => {
-            latency_told(flow, "rule_type").is_none()
-                || whole_told(flow, "stream_id", 65_535, None).is_none()
-        }
+    let flow = an_object(flow)?;
+    if !bool_told(flow, "enabled", false)? {
+        return Some(None);
     }
+    let _latency = latency_told(flow, "rule_type")?;
+    let number = whole_told(flow, "stream_id", 65_535, None)?;
+    Some(Some(number as u16))
 }
 
-/// Whether the program of a stream is wrong.
-#[tactic(auto, unfolding(crate::specs::Shape::vm_wrong))]
-fn is_vm_wrong(stream: &Value) -> bool
-    ensures { result ≡ vm_wrong (view stream.now) }
+/// What a stream does beside sending its template.
+#[derive(Drop)]
+struct Work {
+    flow: Option<u16>,
+    instrs: Vec<RawInstr>,
+}
+
+/// The flow and the instructions of a stream.
+#[tactic(auto, unfolding(crate::specs::Shape::work_rules))]
+fn work_of(alloc: Global, seed: u64, stream: &Value) -> Result<Work, StreamFault>
+    ensures value { Gives {Y = Option ℕ × List Instruction} (λ work. (work.flow, map instruction work.instrs.items)) result
+        (unless (work_rules seed (view stream.now)) (flow_of (view stream.now), instrs_of seed (view stream.now))) }
+    ensures few { IfOk result (λ work. length work.instrs.items ≤ 256) }
+    ensures ranges { IfOk result (λ work. All IsRawInstr (map instruction work.instrs.items)) }
 {
-    let Some(vm) = under(stream, "vm") else {
-        return false;
-    };
-    let Some(vm) = an_object(vm) else {
-        return true;
-    };
-    match under(vm, "instructions") {
-        None => false,
-        Some(instructions) => an_array(instructions).is_none(),
+    let flow = flow_of(stream).ok_or(StreamFault::of_stream(Rule::BadFlowStats))?;
+    let items = items_of(stream).ok_or(StreamFault::of_stream(Rule::BadVm))?;
+    if items.len() > MOST_INSTRUCTIONS {
+        return Err(StreamFault::of_stream(Rule::TooManyInstructions));
     }
+    let instrs = each_instr(alloc, seed, items)?;
+    Ok(Work { flow, instrs })
 }
 
 /// The stream of that id, its defaults filled in.
-#[tactic(auto, unfolding(crate::specs::Shape::stream_rules))]
-pub(crate) fn stream_of(alloc: Global, id: u32, stream: &Value) -> Result<RawStream, ShapeFault>
+#[tactic(auto, unfolding(crate::specs::Shape::stream_rules, crate::specs::Shape::stream_of))]
+pub(crate) fn stream_of(alloc: Global, id: u32, stream: &Value) -> Result<RawStream, StreamFault>
     requires { id ≤ 2147483647 }
     ensures value { Gives raw_stream result (unless (stream_rules (view stream.now)) (stream_of id (view stream.now))) }
     ensures ranges { IfOk result IsRawStream }
 {
     let fields = fields_of(stream)?;
-    let packet = packet_of(stream).ok_or(ShapeFault::of_stream(Rule::BadPacket))?;
+    let packet = packet_of(stream).ok_or(StreamFault::of_stream(Rule::BadPacket))?;
     if is_unbuilt(packet, stream) {
-        return Err(ShapeFault::of_stream(Rule::Unbuilt));
+        return Err(StreamFault::of_stream(Rule::Unbuilt));
     }
-    let template = bytes_told(alloc, packet, "binary")?.ok_or(ShapeFault::of_stream(
+    let template = bytes_told(alloc, packet, "binary")?.ok_or(StreamFault::of_stream(
         Rule::BadBinary,
     ))?;
     let (rate, mode) = mode_of(stream)?;
-    if is_flow_wrong(stream) {
-        return Err(ShapeFault::of_stream(Rule::BadFlowStats));
-    }
-    if is_vm_wrong(stream) {
-        return Err(ShapeFault::of_stream(Rule::BadVm));
-    }
+    let work = work_of(alloc, fields.seed, stream)?;
     Ok(RawStream {
         id,
         enabled: fields.enabled,
@@ -181,5 +183,7 @@ pub(crate) fn stream_of(alloc: Global, id: u32, stream: &Value) -> Result<RawStr
         template,
         rate,
         mode,
+        flow: work.flow,
+        instrs: work.instrs,
     })
 }

@@ -166,14 +166,30 @@ fn the_names_of_a_stream_are_of_their_kinds(rt: HostRuntime) -> Result<(), Fail>
         (r#""flow_stats":1,"vm":1,"#, Some(Rule::BadFlowStats)),
         (r#""flow_stats":{"enabled":0},"#, Some(Rule::BadFlowStats)),
         (r#""flow_stats":{"enabled":false,"rule_type":1},"#, None),
-        (r#""flow_stats":{"enabled":true},"#, Some(Rule::Unbuilt)),
+        (
+            r#""flow_stats":{"enabled":true},"vm":1,"#,
+            Some(Rule::BadFlowStats),
+        ),
+        (
+            r#""flow_stats":{"enabled":true,"rule_type":"stats","stream_id":1},"#,
+            Some(Rule::BadFlowStats),
+        ),
+        (
+            r#""flow_stats":{"enabled":true,"rule_type":"latency","stream_id":65536},"#,
+            Some(Rule::BadFlowStats),
+        ),
+        (
+            r#""flow_stats":{"enabled":true,"rule_type":"latency","stream_id":65535},"#,
+            Some(Rule::NoRoomForStamp),
+        ),
         (r#""vm":[],"#, Some(Rule::BadVm)),
         (r#""vm":{"instructions":{}},"#, Some(Rule::BadVm)),
         (r#""vm":{"instructions":[]},"#, None),
         (
             r#""vm":{"instructions":[1]},"flow_stats":1,"#,
-            Some(Rule::Unbuilt),
+            Some(Rule::BadFlowStats),
         ),
+        (r#""vm":{"instructions":[1]},"#, Some(Rule::BadInstruction)),
         (
             r#""flags":3,"core_id":-1,"start_paused":false,"cache":{},"#,
             None,

@@ -1,7 +1,7 @@
 -- The order of two keys: never both ways, transitive, and total where stream and number differ.
 use Rattle.std.proofs.Common.{◌≡◌, ◌<◌, ◌⊎◌, inl, inr, arith, IsTrue}
 use Rattle.std.proofs.lemmas.Bool.{cases_lt}
-use Rattle.std.proofs.lemmas.Bool.Decides.{nat_tests}
+use Rattle.std.proofs.lemmas.Bool.Decides.{eqb_tells, nat_tests}
 use Rattle.trex_merge.specs.declared.key.Key.{Key}
 use Rattle.trex_merge.specs.Order.{is_before}
 
@@ -87,3 +87,29 @@ one_first a b apart =
 -- no key comes before itself
 pub not_before_itself : (a : Key) → IsTrue (is_before a a) → ⊥
 not_before_itself a p = not_both a a p p
+
+-- where one key comes before another, each third key comes after the one or before the other
+pub before_between : (a b c : Key) → IsTrue (is_before c a) → IsTrue (is_before c b) ⊎ IsTrue (is_before b a)
+before_between a b c p =
+    elim (eqb_tells a.stream b.stream) [
+      | inr other ↦ either (one_first a b (λ same. other.1 same.0))
+      | inl streams ↦ elim (eqb_tells a.number b.number) [
+        | inr other ↦ either (one_first a b (λ same. other.1 same.1))
+        | inl numbers ↦ elim (cases_lt b.time a.time) [
+          | inl earlier ↦ inr (is_before-is b a (by_time earlier))
+          | inr not_earlier ↦ elim (cases_lt a.time b.time) [
+            | inl later ↦ either (inl (is_before-is a b (by_time later)))
+            | inr not_later ↦ inl (is_before-is c b (same_key (before_is c a p) (omega arith) streams.1 numbers.1))
+          ]
+        ]
+      ]
+    ]
+  where
+    either : IsTrue (is_before a b) ⊎ IsTrue (is_before b a) → IsTrue (is_before c b) ⊎ IsTrue (is_before b a)
+    either (inl ab) = inl (before_trans c a b p ab)
+    either (inr ba) = inr ba
+
+    same_key : IsBefore c a → a.time ≡ b.time → a.stream ≡ b.stream → a.number ≡ b.number → IsBefore c b
+    same_key (by_time t) times streams numbers = by_time (omega arith)
+    same_key (by_stream t s) times streams numbers = by_stream (omega arith) (omega arith)
+    same_key (by_number t s n) times streams numbers = by_number (omega arith) (omega arith) (omega arith)

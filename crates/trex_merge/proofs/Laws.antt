@@ -72,6 +72,28 @@ rising-ordered {X = X} key (a ∷ rest) distinct =
     rising-placed key a (ordered key rest) (rising-ordered key rest distinct.1)
     (all_from P (ordered key rest) (λ x h. all_at P rest x distinct.0 ((same-ordered key rest x).0 h)))
 
+-- values stay distinct where one that is apart from all others is put at its place
+distinct-placed : {X : Type 0} (key : X → Key) (a : X) (xs : List X) → AreDistinct key xs → AllByRecursion (AreApart key a) xs → AreDistinct key (placed key a xs)
+distinct-placed key a [] distinct apart = (tt, tt)
+distinct-placed {X = X} key a (b ∷ rest) distinct apart =
+    elim (is_before (key a) (key b)) as (λ t. AreDistinct key (cond t (a ∷ b ∷ rest) (b ∷ placed key a rest))) [
+      | true ↦ (apart, distinct)
+      | false ↦
+          let P : X → Type 0 = AreApart key b in
+          let turned : P a = λ same. apart.0 (sym same.0, sym same.1) in (
+            all_from P (placed key a rest) (λ x h. elim ((has-placed key a rest x).0 h) [ inl same ↦ subst P (sym same) turned | inr later ↦ all_at P rest x distinct.0 later ]),
+            distinct-placed key a rest distinct.1 apart.1,
+          )
+    ]
+
+-- the list in order is as distinct
+pub distinct-ordered : {X : Type 0} (key : X → Key) (xs : List X) → AreDistinct key xs → AreDistinct key (ordered key xs)
+distinct-ordered key [] distinct = tt
+distinct-ordered {X = X} key (a ∷ rest) distinct =
+    let P : X → Type 0 = AreApart key a in
+    distinct-placed key a (ordered key rest) (distinct-ordered key rest distinct.1)
+    (all_from P (ordered key rest) (λ x h. all_at P rest x distinct.0 ((same-ordered key rest x).0 h)))
+
 -- what a rising list has after its first value isn't that value
 past_first : {X : Type 0} (key : X → Key) (a : X) (rest : List X) → IsRising key (a ∷ rest) → Has rest a → ⊥
 past_first {X = X} key a rest rising later = not_before_itself (key a) (all_at (ComesBefore key a) rest a rising.0 later)

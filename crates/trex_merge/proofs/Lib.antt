@@ -1,3 +1,10 @@
 pub mod Keys
 pub mod Laws
 pub mod Lists
+pub mod Least
+pub mod Coming
+pub mod Parts
+pub mod Events
+pub mod Following
+pub mod Feeds
+pub mod Kept

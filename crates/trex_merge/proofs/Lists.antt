@@ -39,6 +39,15 @@ pub pairs_across : {X : Type 0} (R : X → X → Type 0) (xs ys : List X) (y : X
 pairs_across R [] ys y pairs has = tt
 pairs_across R (a ∷ rest) ys y pairs has = (all_at (R a) (rest ++ ys) y pairs.0 ((has-append rest ys y).1 (inr has)), pairs_across R rest ys y pairs.1 has)
 
+-- two lists joined, where it holds in each and between the two
+pub pairs-append : {X : Type 0} (R : X → X → Type 0) (xs ys : List X) → EachPair R xs → EachPair R ys → ((x y : X) → Has xs x → Has ys y → R x y)
+    → EachPair R (xs ++ ys)
+pairs-append R [] ys mine other across = other
+pairs-append R (a ∷ rest) ys mine other across = (
+  all-append (R a) rest ys mine.0 (all_from (R a) ys (λ y h. across a y (inl refl) h)),
+  pairs-append R rest ys mine.1 other (λ x y h. across x y (inr h)),
+)
+
 -- the second list may lose values
 pub pairs-append_less : {X : Type 0} (R : X → X → Type 0) (xs ys zs : List X) → EachPair R (xs ++ ys) → EachPair R zs
     → ((z : X) → Has zs z → Has ys z) → EachPair R (xs ++ zs)

@@ -1,1 +1,4 @@
+pub mod Following
+pub mod Place
+pub mod Reading
 pub mod Writing

@@ -1,7 +1,8 @@
 -- A capture's text (pcap 2.4): a file header, and for each packet a record header and the packet.
-use Rattle.std.specs.Prelude.{ℕ, ◌/◌, ◌%◌, ◌^◌, List, ◌++◌, length}
+use Rattle.std.specs.Prelude.{ℕ, ◌*◌, ◌/◌, ◌%◌, ◌^◌, ◌<◌, ◌≤◌, List, [], ◌∷◌, ◌++◌, length}
 use Rattle.std.specs.List.{flat_map}
 use Rattle.byteorder.specs.Endian.{little_bytes}
+use Rattle.trex_io.specs.Seen.{Seen}
 
 -- The file header (pcap 2.4, file header): the magic of nanosecond captures, version 2.4, two unused numbers, the snapshot
 -- length, and the link type of Ethernet.
@@ -28,3 +29,12 @@ record_of packet = record_header_of packet.time (length packet.bytes) ++ packet.
 -- the capture of some packets
 abbrev pub capture_of : List Packet → List ℕ
 capture_of packets = file_header ++ flat_map record_of packets
+
+-- a packet as a reader of its capture sees it
+abbrev pub seen_of : Packet → Seen
+seen_of packet = record { time = packet.time; bytes = packet.bytes; original = length packet.bytes }
+
+-- each packet fits a record: its seconds fit 32 bits, and it is no longer than the snapshot length
+abbrev pub AllFit : List Packet → Type 0
+AllFit [] = Unit {0}
+AllFit (p ∷ ps) = (p.time < 2 ^ 32 * 10 ^ 9) × (length p.bytes ≤ 262144) × AllFit ps

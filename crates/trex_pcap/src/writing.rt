@@ -4,20 +4,20 @@ ghost use Rattle.trex_pcap.specs.Writing.{file_header, record_header_of};
 use byteorder::{ByteOrder, LittleEndian};
 
 /// The magic number of a capture whose fractions of a second are nanoseconds.
-const MAGIC_NANOSECONDS: u32 = 0xA1B2_3C4D;
+pub(crate) const MAGIC_NANOSECONDS: u32 = 0xA1B2_3C4D;
 
 /// The format's version, 2.4.
-const VERSION_MAJOR: u16 = 2;
+pub(crate) const VERSION_MAJOR: u16 = 2;
 
-const VERSION_MINOR: u16 = 4;
+pub(crate) const VERSION_MINOR: u16 = 4;
 
 /// The greatest number of bytes of a packet that a record holds.
-const SNAPSHOT_LENGTH: u32 = 262_144;
+pub(crate) const SNAPSHOT_LENGTH: u32 = 262_144;
 
 /// The link type of Ethernet.
-const LINK_ETHERNET: u32 = 1;
+pub(crate) const LINK_ETHERNET: u32 = 1;
 
-const NANOSECONDS_PER_SECOND: u64 = 1_000_000_000;
+pub(crate) const NANOSECONDS_PER_SECOND: u64 = 1_000_000_000;
 
 /// The file header of a capture: little-endian, version 2.4, records in nanoseconds, snapshot length 262,144 bytes, link
 /// type Ethernet (pcap 2.4, file header).

@@ -5,3 +5,8 @@ pub mod Steps
 pub mod Members
 pub mod Rounds
 pub mod Walkable
+pub mod Naming
+pub mod Operands
+pub mod Accepted
+pub mod Groups
+pub mod FlowNumbers

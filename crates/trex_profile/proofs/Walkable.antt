@@ -18,7 +18,7 @@ use Rattle.trex_profile.specs.declared.rule.Rule.TheVariants.{BadLength, RateZer
 use Rattle.trex_profile.specs.Order.{first, first_each}
 use Rattle.trex_profile.specs.Refusal.{rule, in_stream}
 use Rattle.trex_profile.specs.Stream.{Stream}
-use Rattle.trex_profile.specs.Rules.{length_wrong, numerator, no_packets, value_rules, value_refusal}
+use Rattle.trex_profile.specs.Rules.{length_wrong, numerator, no_packets, time_rules, value_rules, value_refusal}
 use Rattle.trex_profile.specs.Admission.{refusal_of}
 use Rattle.trex_profile.specs.Chains.{leg_at, leg_of, chain_by, starts, chains_of}
 use Rattle.trex_profile.specs.Cross.{rule_at, duplicate_refusal, lost_refusal, shared_refusal, cross_rules}
@@ -26,12 +26,7 @@ use Rattle.trex_profile.specs.Links.{ids, place_of, is_endless, if_enabled, effe
 use Rattle.trex_profile.specs.Reached.{AreRising}
 use Rattle.trex_profile.specs.Visits.{Round, has, link_at, round_of, reach_at, is_shared}
 use Rattle.trex_profile.proofs.Rounds.{has-more, has-head, AreApart, AreUnshared, IsRound, round_of-round, round_of-some, distinct-apart, orders, orders-apart}
-use Rattle.trex_profile.proofs.Steps.{starts_from-rising}
-
--- where none of a list of rules is broken
-first-none : {E : Type 0} (e : Option E) (rules : List (Option E)) → first (e ∷ rules) ≡ None → (e ≡ None) × (first rules ≡ None)
-first-none None rules none = (refl, none)
-first-none (Some e) rules none = cc
+use Rattle.trex_profile.proofs.Steps.{first-none, starts_from-rising}
 
 option_map-none : {A B : Type 0} (f : A → B) (o : Option A) → option_map f o ≡ None → o ≡ None
 option_map-none f None none = refl
@@ -56,10 +51,12 @@ fourth-none None None (Some e) d none = cc
 fourth-none None None None (Some e) none = cc
 
 value-kept : (s : Stream) → value_rules s ≡ None → HasPackets s.mode
-unfolding value_rules
+unfolding value_rules time_rules
 value-kept s none =
+    let times = first-none (time_rules s) _ none in
     has_packets s.mode (rule-none (no_packets s.mode)
-    (fourth-none (rule BadLength (length_wrong s)) (rule RateZero (s.rate.value == 0)) (rule RateTooHigh (nat_lt (numerator s) s.rate.value)) (rule CountZero (no_packets s.mode)) none))
+    (fourth-none (rule BadLength (length_wrong s.template)) (rule RateZero (s.rate.value == 0)) (rule RateTooHigh (nat_lt (numerator s) s.rate.value))
+    (rule CountZero (no_packets s.mode)) times.0))
 
 values-kept : (position : ℕ) (streams : List Stream) → first_each value_refusal position streams ≡ None → AllByRecursion (λ (s : Stream). HasPackets s.mode) streams
 values-kept position [] none = tt
@@ -124,7 +121,7 @@ endless-last streams at s there endless = link-by streams at s there ∙ by_mode
     by_mode (MultiBurst per_burst ibg (suc count)) never = absurd (cc)
 
 -- what holds of each stream's leg holds of the legs at these positions
-legs-all : (P : Leg → Type 0) (streams : List Stream) → ((at : ℕ) (s : Stream) → slice_get streams at ≡ Some s → P (leg_at at s)) → (order : List ℕ)
+pub legs-all : (P : Leg → Type 0) (streams : List Stream) → ((at : ℕ) (s : Stream) → slice_get streams at ≡ Some s → P (leg_at at s)) → (order : List ℕ)
     → AllByRecursion P (filter_map (leg_of streams) order)
 legs-all P streams each [] = tt
 legs-all P streams each (at ∷ order) = by_stream (slice_get streams at) refl (legs-all P streams each order)
@@ -231,18 +228,18 @@ joined-streams streams (start ∷ firsts) small =
     (legs-order streams (round_of (links streams) start).order (round-at streams start small.0).order.below)
     ∙ ap (λ rest. (round_of (links streams) start).order ++ rest) (joined-streams streams firsts small.1)
 
--- of three rules the last isn't broken
-third-none : {E : Type 0} (a b c : Option E) → first (a ∷ b ∷ c ∷ []) ≡ None → c ≡ None
-third-none None None None none = refl
-third-none (Some e) b c none = cc
-third-none None (Some e) c none = cc
-third-none None None (Some e) none = cc
+-- where no rule is broken, the third isn't
+third-none : {E : Type 0} (a b c : Option E) (rules : List (Option E)) → first (a ∷ b ∷ c ∷ rules) ≡ None → c ≡ None
+third-none None None None rules none = refl
+third-none (Some e) b c rules none = cc
+third-none None (Some e) c rules none = cc
+third-none None None (Some e) rules none = cc
 
 cross-kept : (streams : List Stream) → cross_rules streams ≡ None → first_each (shared_refusal (links streams) (starts streams)) 0 streams ≡ None
 unfolding cross_rules
 cross-kept streams none =
     third-none (first_each (duplicate_refusal (ids streams)) 0 streams) (first_each (lost_refusal (ids streams)) 0 streams)
-    (first_each (shared_refusal (links streams) (starts streams)) 0 streams) none
+    (first_each (shared_refusal (links streams) (starts streams)) 0 streams) _ none
 
 shared-none : (position : ℕ) (reach : Reach) → rule_at SharedStream position (is_shared reach) ≡ None → reach ≡ Shared → ⊥
 shared-none position reach none is =

@@ -1,8 +1,8 @@
 -- The rules over several streams (own).
 use Rattle.std.specs.Prelude.{ℕ, Bool, false, nat_eq, List, [], ◌∷◌, take, Option, None, Some, is_none}
-use Rattle.std.specs.List.{list_any}
+use Rattle.std.specs.List.{list_any, filter_map}
 use Rattle.trex_profile.specs.declared.rule.Rule.{Rule}
-use Rattle.trex_profile.specs.declared.rule.Rule.TheVariants.{DuplicateId, NoSuchStream, SharedStream}
+use Rattle.trex_profile.specs.declared.rule.Rule.TheVariants.{DuplicateId, NoSuchStream, SharedStream, DuplicateFlow}
 use Rattle.trex_profile.specs.declared.refusal.Refusal.{Refusal}
 use Rattle.trex_profile.specs.Order.{broken, first, first_each}
 use Rattle.trex_profile.specs.Refusal.{whole_stream, in_stream}
@@ -34,10 +34,24 @@ lost_refusal ids position s = rule_at NoSuchStream position (is_lost ids s.next)
 abbrev pub shared_refusal : List (Option ℕ) → List ℕ → ℕ → Stream → Option Refusal
 shared_refusal links starts position s = rule_at SharedStream position (is_shared (reach_at links starts position))
 
+-- the flow numbers of streams
+abbrev pub flows : List Stream → List ℕ
+flows streams = filter_map (λ s. s.flow) streams
+
+-- there is a flow number, and it is among these
+abbrev pub has_flow : List ℕ → Option ℕ → Bool
+has_flow flows None = false
+has_flow flows (Some flow) = list_any (nat_eq flow) flows
+
+-- an earlier stream has the same flow number
+abbrev pub flow_refusal : List Stream → ℕ → Stream → Option Refusal
+flow_refusal streams position s = rule_at DuplicateFlow position (has_flow (flows (take position streams)) s.flow)
+
 -- the rules over several streams, in their order
 unfoldable pub cross_rules : List Stream → Option Refusal
 cross_rules streams = first (
     first_each (duplicate_refusal (ids streams)) 0 streams
     ∷ first_each (lost_refusal (ids streams)) 0 streams
     ∷ first_each (shared_refusal (links streams) (starts streams)) 0 streams
+    ∷ first_each (flow_refusal streams) 0 streams
     ∷ [])

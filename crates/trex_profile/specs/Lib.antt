@@ -1,6 +1,12 @@
 pub mod Order
 pub mod Refusal
+pub mod Answer
+pub mod Instruction
 pub mod Stream
+pub mod Given
+pub mod Steps
+pub mod Packets
+pub mod InstrRules
 pub mod Rules
 pub mod Admission
 pub mod Links
@@ -9,3 +15,4 @@ pub mod Reached
 pub mod Chains
 pub mod Cross
 pub mod Member
+pub mod Spec

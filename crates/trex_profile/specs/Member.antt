@@ -1,5 +1,8 @@
 -- An admitted stream, as plain data (own).
+use Rattle.std.specs.Prelude.{map}
 use Rattle.trex_profile.specs.declared.member.Member.{Member}
+use Rattle.trex_profile.specs.Instruction.{instruction}
+use Rattle.trex_profile.specs.Spec.{IsSpecOf}
 use Rattle.trex_profile.specs.Stream.{Stream}
 
 -- what an admitted stream says
@@ -15,4 +18,10 @@ member_stream m = record {
   template = m.spec.template.items;
   rate = m.rate;
   mode = m.mode;
+  flow = m.spec.flow;
+  instrs = map instruction m.instrs.items;
 }
+
+-- what it says of its packets is what they are made of
+abbrev pub IsMember : Member → Type 0
+IsMember m = IsSpecOf (member_stream m) m.spec

@@ -28,3 +28,7 @@ document r test = broken (of_document r) test
 -- a rule about a stream is broken where its test holds
 abbrev pub rule : Rule → Bool → Option Breach
 rule r test = broken (whole_stream r) test
+
+-- a rule about the instruction at a place is broken where its test holds
+abbrev pub rule_there : Rule → ℕ → Bool → Option Breach
+rule_there r place test = broken (at_place place r) test

@@ -1,12 +1,14 @@
 -- What a stream says, as plain data (own).
-use Rattle.std.specs.Prelude.{ℕ, ◌≤◌, ◌<◌, ◌^◌, Bool, List, Option}
+use Rattle.std.specs.Prelude.{ℕ, ◌≤◌, ◌<◌, ◌^◌, Bool, List, length, map, Option, All}
 use Rattle.std.specs.Option.{ForSome}
 use Rattle.trex_sched.specs.declared.mode.Mode.{Mode}
 use Rattle.trex_sched.specs.declared.mode.Mode.TheVariants.{Continuous, SingleBurst, MultiBurst}
 use Rattle.trex_profile.specs.declared.raw.RawRate.{RawRate}
 use Rattle.trex_profile.specs.declared.raw.RawStream.{RawStream}
+use Rattle.trex_profile.specs.Instruction.{Instruction, instruction, IsRawInstr}
 
--- A stream: its names in a profile, each default filled in. The gap is in nanoseconds, the template is the bytes of each packet.
+-- A stream: its names in a profile, each default filled in. The gap is in nanoseconds, the template is the bytes of each packet
+-- before its instructions.
 pub record Stream : Type 0 where
   pub id : ℕ
   pub enabled : Bool
@@ -18,6 +20,8 @@ pub record Stream : Type 0 where
   pub template : List ℕ
   pub rate : RawRate
   pub mode : Mode
+  pub flow : Option ℕ
+  pub instrs : List Instruction
 
 -- a stream as it is held before its values are looked at
 abbrev pub raw_stream : RawStream → Stream
@@ -32,6 +36,8 @@ raw_stream s = record {
   template = s.template.items;
   rate = s.rate;
   mode = s.mode;
+  flow = s.flow;
+  instrs = map instruction s.instrs.items;
 }
 
 -- the gap between bursts is at most 10^18 ns
@@ -47,3 +53,5 @@ pub record IsRawStream (s : RawStream) : Type 0 where
   pub isg : s.isg ≤ 10 ^ 18
   pub rate : s.rate.value < 10 ^ 30
   pub ibg : HasGap s.mode
+  pub count : length s.instrs.items ≤ 256
+  pub instrs : All IsRawInstr (map instruction s.instrs.items)

@@ -1,6 +1,6 @@
-ghost use Rattle.std.specs.Prelude.{◌≡◌, map, All, length, ◌≤◌};
+ghost use Rattle.std.specs.Prelude.{◌≡◌, map, All, length, ◌≤◌, IfOk};
 ghost use Rattle.trex_profile.specs.Admission.{IsRawProfile, Admits, admitted};
-ghost use Rattle.trex_profile.specs.Member.{member_stream};
+ghost use Rattle.trex_profile.specs.Member.{member_stream, IsMember};
 ghost use Rattle.trex_profile.specs.Order.{first_each, unless};
 ghost use Rattle.trex_profile.specs.Rules.{value_refusal};
 ghost use Rattle.trex_profile.specs.Stream.{IsRawStream, raw_stream};
@@ -44,16 +44,18 @@ impl<T: Drop> From<AllocFailed<T>> for AdmitFault {
 
 /// The streams whose values keep the rules, or the first broken rule.
 fn each_stream(alloc: Global, raws: Vec<RawStream>) -> Result<Vec<Member>, AdmitFault>
-    requires { length raws.items ≤ 4096 }
-    ensures { Admits (λ members. map member_stream members.items) result
+    requires few { length raws.items ≤ 4096 }
+    requires ranges { All IsRawStream raws.items }
+    ensures value { Admits (λ members. map member_stream members.items) result
         (unless (first_each value_refusal 0 (map raw_stream raws.items)) (map raw_stream raws.items)) }
+    ensures specs { IfOk result (λ members. All IsMember members.items) }
 {
     let mut members = Vec::new(alloc);
     let mut at = 0;
     for raw in raws {
-        match Member::of(raw) {
+        match Member::of(alloc, raw) {
             Ok(member) => members.push(member)?,
-            Err(breach) => return Err(AdmitFault::Refused(breach.in_stream(at))),
+            Err(fault) => return Err(fault.in_stream(at)),
         }
         at += 1;
     }

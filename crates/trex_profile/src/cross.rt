@@ -8,6 +8,7 @@ ghost use Rattle.trex_profile.specs.Visits.{link_at};
 
 use crate::admission::AdmitFault;
 use crate::chains::starts_of;
+use crate::flows::differ_in_flows;
 use crate::links::{first_lost, index_ids, links_of};
 use crate::member::Member;
 use crate::reach::{first_shared, reaches};
@@ -45,5 +46,6 @@ pub(crate) fn follow(alloc: Global, members: &[Member]) -> Result<Following, Adm
     if let Some(refusal) = first_shared(members, &links, &starts, &reach) {
         return Err(AdmitFault::Refused(refusal));
     }
+    differ_in_flows(alloc, members)?;
     Ok(Following { links, starts })
 }

@@ -2,28 +2,33 @@ ghost use Rattle.std.specs.Prelude.{◌≡◌, ◌≤◌, ◌<◌, length, vec_l
 ghost use Rattle.trex_sched.specs.Times.{period_of};
 ghost use Rattle.trex_profile.specs.Rules.{numerator_of};
 
-use crate::raw::{RateKind, RawRate, RawStream};
-use crate::refusal::Breach;
-use crate::rule::Rule;
+use crate::fault::StreamFault;
+use crate::parts::{parts_of, program_for};
+use crate::raw::{RawInstr, RawRate, RawStream};
+use crate::times::period_of;
+use std::alloc::Global;
 use trex_sched::{Leg, Mode, Period};
+use trex_vars::VarSpec;
+use trex_vm::{Program, programs_fit};
 
-/// The number of bytes of a packet: an Ethernet header at least, a jumbo frame at most.
-const SHORTEST_TEMPLATE: usize = 14;
-
-const LONGEST_TEMPLATE: usize = 9_216;
-
-/// What the packets of a stream are.
-#[derive(Debug, Drop)]
+/// What the packets of a stream are made of.
+#[derive(Drop)]
 pub struct StreamSpec {
     pub id: u32,
-    /// The bytes of each packet, 14 to 9,216.
+    /// The bytes of each packet before its instructions, 14 to 9,216.
     pub template: Vec<u8>,
+    /// The variables, in the order of their instructions.
+    pub vars: Vec<VarSpec>,
+    /// The other instructions.
+    pub program: Program,
+    /// The flow number of the latency headers, where the packets have them.
+    pub flow: Option<u16>,
     pub ghost at_least: { 14 ≤ vec_len template },
     pub ghost at_most: { vec_len template ≤ 9216 },
 }
 
 /// A stream whose values keep the rules.
-#[derive(Debug, Drop)]
+#[derive(Drop)]
 pub(crate) struct Member {
     pub(crate) spec: StreamSpec,
     pub(crate) enabled: bool,
@@ -34,42 +39,46 @@ pub(crate) struct Member {
     pub(crate) seed: u64,
     pub(crate) rate: RawRate,
     pub(crate) mode: Mode,
+    pub(crate) instrs: Vec<RawInstr>,
     pub(crate) period: Period,
     ghost timed: { ∥ period_of (numerator_of rate.kind (length spec.template.items)) rate.value ≡ Some period ∥₁ },
 }
 
 impl Member {
+    ghost use Rattle.trex_profile.specs.Answer.{Gives};
     ghost use Rattle.trex_profile.specs.Chains.{leg_at};
     ghost use Rattle.trex_profile.specs.Member.{member_stream};
     ghost use Rattle.trex_profile.specs.Order.{unless};
     ghost use Rattle.trex_profile.specs.Rules.{value_rules};
-    ghost use Rattle.trex_profile.specs.Stream.{raw_stream};
-    ghost use Rattle.std.specs.Prelude.{Ok, Err, MatchResult};
+    ghost use Rattle.trex_profile.specs.Spec.{IsSpecOf};
+    ghost use Rattle.trex_profile.specs.Stream.{raw_stream, IsRawStream};
+    ghost use Rattle.std.specs.Prelude.{IfOk};
 
     /// The stream, where its values keep the rules, else the first that is broken.
     #[tactic(auto, unfolding(crate::specs::Rules::value_rules))]
-    pub(crate) fn of(raw: RawStream) -> Result<Member, Breach>
-        ensures { MatchResult result
-            (λ member. unless (value_rules (raw_stream raw)) (raw_stream raw) ≡ Ok (member_stream member))
-            (λ breach. unless (value_rules (raw_stream raw)) (raw_stream raw) ≡ Err breach) }
+    pub(crate) fn of(alloc: Global, raw: RawStream) -> Result<Member, StreamFault>
+        requires { IsRawStream raw }
+        ensures value { Gives member_stream result (unless (value_rules (raw_stream raw)) (raw_stream raw)) }
+        ensures spec { IfOk result (λ member. IsSpecOf (member_stream member) member.spec) }
     {
-        let length = raw.template.len();
-        if length < SHORTEST_TEMPLATE || length > LONGEST_TEMPLATE {
-            return Err(Breach::of_stream(Rule::BadLength));
-        }
-        if raw.rate.value == 0 {
-            return Err(Breach::of_stream(Rule::RateZero));
-        }
-        let Some(period) = Period::new(numerator(raw.rate.kind, length), raw.rate.value) else {
-            return Err(Breach::of_stream(Rule::RateTooHigh));
-        };
-        if has_no_packets(raw.mode) {
-            return Err(Breach::of_stream(Rule::CountZero));
-        }
+        let period = period_of(&raw)?;
+        let parts = parts_of(alloc, raw.seed, &raw.instrs)?;
+        let program = program_for(
+            alloc,
+            &parts.vars,
+            &parts.steps,
+            &raw.template,
+            raw.flow.is_some(),
+        )?;
+        // An accepted program fits its template and the values of its variables.
+        programs_fit();
         Ok(Member {
             spec: StreamSpec {
                 id: raw.id,
                 template: raw.template,
+                vars: parts.vars,
+                program,
+                flow: raw.flow,
             },
             enabled: raw.enabled,
             self_start: raw.self_start,
@@ -79,6 +88,7 @@ impl Member {
             seed: raw.seed,
             rate: raw.rate,
             mode: raw.mode,
+            instrs: raw.instrs,
             period,
         })
     }
@@ -94,35 +104,5 @@ impl Member {
             mode: self.mode,
             actions: self.action_count,
         }
-    }
-}
-
-ghost use Rattle.std.specs.Prelude.{◌^◌};
-ghost use Rattle.trex_profile.specs.Rules.{no_packets};
-
-/// 10^15 nanoseconds times millionths: a second, and a packet or a bit.
-const SECOND: u128 = 1_000_000_000_000_000;
-
-/// The numerator of the period in nanoseconds, where the denominator is the rate in millionths.
-fn numerator(kind: RateKind, length: usize) -> u128
-    requires { length ≤ 9216 }
-    ensures value { result ≡ numerator_of kind length }
-    ensures bound { result < 10 ^ 20 }
-{
-    match kind {
-        RateKind::Pps => SECOND,
-        RateKind::BpsL1 => SECOND * 8 * (length as u128 + 24),
-        RateKind::BpsL2 => SECOND * 8 * (length as u128 + 4),
-    }
-}
-
-/// Whether a burst of the mode has no packets.
-fn has_no_packets(mode: Mode) -> bool
-    ensures { result ≡ no_packets mode }
-{
-    match mode {
-        Mode::Continuous => false,
-        Mode::SingleBurst { total } => total == 0,
-        Mode::MultiBurst { per_burst, .. } => per_burst == 0,
     }
 }

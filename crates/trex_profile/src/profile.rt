@@ -7,18 +7,18 @@ use trex_io::Memory;
 use trex_sched::ChainSpec;
 
 /// A profile that keeps all rules. Contracts see it as the list of its streams.
-#[derive(Debug, Drop)]
+#[derive(Drop)]
 pub struct Profile {
     members: Vec<Member>,
     chains: Vec<ChainSpec>,
 }
 
 impl Model for Profile {
-    ghost use Rattle.std.specs.Prelude.{◌≡◌, ◌≤◌, List, length, map, None};
+    ghost use Rattle.std.specs.Prelude.{◌≡◌, List, map, All, None};
     ghost use Rattle.trex_sched.specs.Chain.{chain_of};
     ghost use Rattle.trex_profile.specs.Admission.{refusal_of};
     ghost use Rattle.trex_profile.specs.Chains.{chains_of};
-    ghost use Rattle.trex_profile.specs.Member.{member_stream};
+    ghost use Rattle.trex_profile.specs.Member.{member_stream, IsMember};
     ghost use Rattle.trex_profile.specs.Stream.{Stream};
 
     ghost Value = { List Stream };
@@ -26,19 +26,22 @@ impl Model for Profile {
     ghost view = { λ p. map member_stream p.members.items };
 
     ghost invariant = { λ p. (refusal_of (map member_stream p.members.items) ≡ None)
-        × (map chain_of p.chains.items ≡ chains_of (map member_stream p.members.items)) };
+        × (map chain_of p.chains.items ≡ chains_of (map member_stream p.members.items))
+        × All IsMember p.members.items };
 }
 
 impl Profile {
-    ghost use Rattle.std.specs.Prelude.{◌≡◌, ℕ, ◌≤◌, ◌<◌, ◌↔◌, [], length, map, None, Some, IsTrue, IfOk, IsSomeAnd, slice_get};
+    ghost use Rattle.std.specs.Prelude.{◌≡◌, ℕ, ◌≤◌, ◌<◌, ◌↔◌, [], length, map, All, None, Some, IsTrue, IfOk, IsSomeAnd, slice_get};
     ghost use Rattle.std.specs.List.{AllByRecursion};
     ghost use Rattle.trex_sched.specs.Chain.{chain_of, IsChain};
     ghost use Rattle.trex_sched.specs.Walks.{HaveDistinctStreams};
     ghost use Rattle.trex_profile.specs.Admission.{refusal_of};
     ghost use Rattle.trex_profile.specs.Chains.{starts, chains_of};
     ghost use Rattle.trex_profile.specs.Links.{links};
-    ghost use Rattle.trex_profile.specs.Member.{member_stream};
+    ghost use Rattle.trex_profile.specs.Member.{member_stream, IsMember};
+    ghost use Rattle.trex_profile.specs.Packets.{packet_of};
     ghost use Rattle.trex_profile.specs.Reached.{AreRising};
+    ghost use Rattle.trex_profile.specs.Spec.{IsSpecOf};
     ghost use Rattle.trex_profile.specs.Visits.{link_at};
 
     pub(crate) fn new(
@@ -48,6 +51,7 @@ impl Profile {
     ) -> Result<Profile, Memory>
         requires few { length members.items ≤ 4096 }
         requires kept { refusal_of (map member_stream members.items) ≡ None }
+        requires specs { All IsMember members.items }
         requires links { following.now.links.items ≡ links (map member_stream members.items) }
         requires same { length following.now.links.items ≡ length members.items }
         requires within { (at next : ℕ) → link_at following.now.links.items at ≡ Some next → next < length following.now.links.items }
@@ -62,8 +66,9 @@ impl Profile {
     /// The number of streams.
     pub fn len(&self) -> usize
         ensures value { result ≡ length self.now }
-        // A profile keeps the rules.
+        // A profile keeps the rules, and no packet is longer than the longest.
         ensures kept { refusal_of self.now ≡ None }
+        ensures short { AllByRecursion (λ s. (number time : ℕ) → length (packet_of s number time) ≤ 9216) self.now }
     {
         self.members.len()
     }
@@ -75,11 +80,10 @@ impl Profile {
         self.members.is_empty()
     }
 
-    /// The packets of the stream at a position.
+    /// What the packets of the stream at a position are made of.
     pub fn stream(&self, i: usize) -> &StreamSpec
         requires { i < length self.now }
-        ensures { IsSomeAnd (slice_get self.now i)
-            (λ stream. (result.now.id ≡ stream.id) × (result.now.template.items ≡ stream.template)) }
+        ensures { IsSomeAnd (slice_get self.now i) (λ stream. IsSpecOf stream result.now) }
     {
         &self.members[i].spec
     }

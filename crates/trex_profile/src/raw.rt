@@ -1,4 +1,6 @@
+use crate::name::Name;
 use trex_sched::Mode;
+use trex_vars::Op;
 
 /// What a profile says, its shape already looked at and its values not yet.
 #[derive(Debug, Drop)]
@@ -20,10 +22,14 @@ pub struct RawStream {
     /// After so many visits the chain stops; 0 where it doesn't.
     pub action_count: u32,
     pub seed: u64,
-    /// The bytes of each packet.
+    /// The bytes of each packet, before its instructions.
     pub template: Vec<u8>,
     pub rate: RawRate,
     pub mode: Mode,
+    /// The flow number of the latency headers, where the stream has them.
+    pub flow: Option<u16>,
+    /// At most 256.
+    pub instrs: Vec<RawInstr>,
 }
 
 /// What a rate counts a second: packets, the bits of Ethernet frames with preamble and gap, or those of frames.
@@ -39,4 +45,85 @@ pub enum RateKind {
 pub struct RawRate {
     pub kind: RateKind,
     pub value: u128,
+}
+
+/// Where a write begins.
+#[derive(Debug, Drop)]
+pub enum RawPlace {
+    /// A byte of the packet, counted from 0.
+    At(u64),
+}
+
+/// What one instruction says, each default filled in. Sizes and casts are numbers of bytes: 1, 2, 4 or 8.
+#[derive(Debug, Drop)]
+pub enum RawInstr {
+    /// A counter from `min` to `max` that begins at `init`, or random numbers of that range.
+    FlowVar {
+        name: Name,
+        size: u8,
+        op: Op,
+        init: u64,
+        min: u64,
+        max: u64,
+        step: u64,
+    },
+    /// One of these values after another, or random ones of them.
+    ListVar {
+        name: Name,
+        size: u8,
+        op: Op,
+        step: u64,
+        values: Vec<u64>,
+    },
+    /// So many random numbers from `min` to `max`, over and over.
+    RandLimit {
+        name: Name,
+        size: u8,
+        min: u64,
+        max: u64,
+        limit: u64,
+        seed: u64,
+    },
+    /// Pairs of an IPv4 address and a port, over and over: so many, or all where the limit is 0. It gives two names, that of the
+    /// address with `.ip` after its own and that of the port with `.port`.
+    Tuple {
+        name: Name,
+        ip_min: u32,
+        ip_max: u32,
+        port_min: u16,
+        port_max: u16,
+        limit: u32,
+    },
+    /// Writes a variable and a number added to it.
+    Write {
+        name: Name,
+        place: RawPlace,
+        add: i64,
+        big: bool,
+    },
+    /// Writes the bits of a mask of a variable, shifted to the left by `shift`, -63 to 63.
+    WriteMask {
+        name: Name,
+        place: RawPlace,
+        cast: u8,
+        mask: u64,
+        shift: i8,
+        add: i64,
+        big: bool,
+    },
+    /// Fixes the checksum of the IPv4 header at a byte of the packet (RFC 791, section 3.1).
+    FixIpv4 {
+        at: u64,
+    },
+    /// Fixes the checksum of the IPv4 header of `l3` bytes at `l2`, and then, where `l4` is 11, that of the UDP segment behind it
+    /// (RFC 768), where it is 13 that of the TCP segment (RFC 793), and where it is 17 no other.
+    FixHw {
+        l2: u64,
+        l3: u64,
+        l4: u8,
+    },
+    /// Cuts the packet to the bytes that a variable says.
+    Trim {
+        name: Name,
+    },
 }

@@ -7,6 +7,7 @@ ghost use Rattle.trex_sched.specs.Chain.{Chain, IsChain};
 ghost use Rattle.trex_sched.specs.Entries.{entries, key_of, share};
 ghost use Rattle.trex_sched.specs.Runs.{run_at, runs, runs_from};
 ghost use Rattle.trex_sched.specs.Times.{HasPackets, offset, size, span};
+ghost use Rattle.trex_sched.specs.Walks.{HaveDistinctStreams, all_entries};
 ghost use Rattle.trex_sched.specs.declared.chain.Leg.{Leg};
 ghost use Rattle.trex_sched.specs.declared.run.Run.{Run as ARun};
 ghost use Rattle.trex_sched.specs.declared.slot.Slot.{Slot as ASlot};
@@ -46,4 +47,11 @@ pub fn entries_rise()
     // A core's part rises too, and one core has all.
     ensures shares { (chain : Chain) (core cores d : ℕ) → IsChain chain → IsRising key_of (share core cores (entries chain d)) }
     ensures whole { (slots : List ASlot) → share 0 1 slots ≡ slots }
+{}
+
+/// The packets of many chains whose legs name distinct streams.
+pub fn chains_are_apart()
+    // No two have one stream and one number.
+    ensures { (chains : List Chain) (d : ℕ) → AllByRecursion IsChain chains → HaveDistinctStreams chains
+        → AreDistinct key_of (all_entries chains d) }
 {}

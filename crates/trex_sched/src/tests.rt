@@ -2,7 +2,9 @@ ghost use Rattle.std.specs.Prelude.{IfOk};
 ghost use Rattle.trex_sched.specs.Chain.{chain_of, IsChain};
 ghost use Rattle.trex_sched.specs.Times.{HasPackets};
 
-use crate::{ChainSpec, Leg, Mode, Period, Walk, entries_rise, offsets_rise, runs_rise};
+use crate::{
+    ChainSpec, Leg, Mode, Period, Walk, chains_are_apart, entries_rise, offsets_rise, runs_rise,
+};
 use std::alloc::{AllocError, Global};
 use std::process::Abort;
 use std::test::Fail;
@@ -151,6 +153,7 @@ fn a_stream_without_an_end_sends_below_the_duration(rt: HostRuntime) -> Result<(
     offsets_rise();
     runs_rise();
     entries_rise();
+    chains_are_apart();
     let period = Period::new(1_000_000_000_000_000, 1_000_000_000).ok_or("no period")?;
     let leg = Leg {
         stream: 1,

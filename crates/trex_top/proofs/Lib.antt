@@ -1,6 +1,7 @@
 pub mod Counts
-pub mod Early
 pub mod Gathering
 pub mod Lines
 pub mod Schedule
+pub mod Stepping
+pub mod Readying
 pub mod TooLong

@@ -5,3 +5,5 @@ pub mod Counting
 pub mod Pieces
 pub mod Clauses
 pub mod Making
+pub mod Steps
+pub mod Ready

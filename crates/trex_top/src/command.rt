@@ -12,6 +12,8 @@ use crate::run::run;
 use crate::stop::{stopped, tell};
 use crate::texts::{Line, write_report};
 use std::alloc::Global;
+use std::thread::Threads;
+use trex_crew::Gate;
 use trex_io::{Sink, Source};
 use trex_words::{Asked, read_words};
 
@@ -35,13 +37,15 @@ pub enum Status {
 }
 
 /// The program: reads the command words and does what they ask. `input` has the profile, `out` gets the capture or the
-/// accepted line, and `notes` the report or the line of the status.
-pub fn trex_main<S: Source, O: Sink, N: Sink>(
+/// accepted line, and `notes` the report or the line of the status. A run's cores work in as many threads as there are `gates`.
+pub fn trex_main<R: Threads + Sync, S: Source, O: Sink, N: Sink, G: Gate>(
+    rt: &R,
     alloc: Global,
     words: &[String],
     input: &mut S,
     out: &mut O,
     notes: &mut N,
+    gates: &mut [G],
 ) -> Status
     // Words without a meaning: nothing is read, and nothing is written but their line.
     ensures usage { (result ≡ Status.Usage) ↔ IsErr (asked (map string_bytes words.now)) }
@@ -87,7 +91,7 @@ pub fn trex_main<S: Source, O: Sink, N: Sink>(
             tell(notes, &Line::Usage(usage));
             Status::Usage
         }
-        Ok(Asked::Run(ask)) => match run(alloc, &ask, input, out) {
+        Ok(Asked::Run(ask)) => match run(rt, alloc, &ask, input, out, gates) {
             Ok(tallies) => match write_report(notes, &tallies) {
                 Ok(()) => Status::Done,
                 Err(_) => Status::NotesFault,

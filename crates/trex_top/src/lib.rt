@@ -3,13 +3,18 @@
 
 mod check;
 mod command;
-mod generate;
+mod go_on;
 mod input;
 mod names;
 mod pieces;
+mod ready;
 mod run;
+mod steps;
 mod stop;
 mod texts;
+mod writing;
 
 pub use command::{Status, trex_main};
+pub use ready::{Ready, prepare};
 pub use texts::Tally;
+pub use writing::generate;

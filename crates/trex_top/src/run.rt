@@ -1,35 +1,23 @@
-ghost use Rattle.std.specs.Prelude.{◌≡◌, ◌<◌, ◌≤◌, ◌^◌, IfOk, IfErr, OnOk};
-ghost use Rattle.std.specs.List.{AllByRecursion};
+ghost use Rattle.std.specs.Prelude.{◌≡◌, IfOk, IfErr, OnOk};
 ghost use Rattle.std.specs.Io.KnownBytes.{IsAtEnd};
-ghost use Rattle.trex_io.specs.Texts.{Wrote, Writes};
-ghost use Rattle.trex_sched.specs.declared.slot.Slot.{Slot as ASlot};
+ghost use Rattle.trex_io.specs.Texts.{Wrote};
 ghost use Rattle.trex_words.specs.Asked.{IsRunAsk};
-ghost use Rattle.trex_top.specs.Capture.{schedule, sequence, capture, tallies};
+ghost use Rattle.trex_top.specs.Capture.{sequence, capture, tallies};
 ghost use Rattle.trex_top.specs.Clauses.{OnProfile};
 ghost use Rattle.trex_top.specs.Making.{Stops, Unmade};
 
-use crate::generate::{first_piece, no_tallies, send};
 use crate::input::{ReadingStop, read_input};
+use crate::ready::prepare;
 use crate::stop::Stop;
 use crate::texts::Tally;
+use crate::writing::generate;
 use std::alloc::Global;
-use trex_io::{Memory, Sink, Source};
-use trex_merge::order_is_unique;
+use std::thread::Threads;
+use trex_core::Plan;
+use trex_crew::Gate;
+use trex_io::{Sink, Source};
 use trex_profile::Profile;
-use trex_sched::{Slot, Walks, entries_rise};
 use trex_words::RunAsk;
-
-/// The packets of a profile, before the first.
-fn walks_of(alloc: Global, profile: &Profile, duration: u64) -> Result<Walks<'_>, Memory>
-    requires { duration ≤ 10 ^ 18 }
-    ensures walks { IfOk result (λ walks. walks ≡ schedule profile.now duration) }
-    ensures early { IfOk result (AllByRecursion (λ (slot : ASlot). slot.time < 10 ^ 18)) }
-{
-    entries_rise();
-    order_is_unique::<Slot>();
-    let walks = Walks::start(alloc, profile.chains(), 0, 1, duration)?;
-    Ok(walks)
-}
 
 /// Why a capture wasn't written whole.
 enum Unwritten {
@@ -38,38 +26,37 @@ enum Unwritten {
 }
 
 /// Writes the capture of a profile, and answers what was sent. All memory is taken before the first byte.
-fn write_capture<O: Sink>(
+fn write_capture<R: Threads + Sync, O: Sink, G: Gate>(
+    rt: &R,
     alloc: Global,
     profile: &Profile,
     ask: &RunAsk,
     out: &mut O,
+    gates: &mut [G],
 ) -> Result<Vec<Tally>, Unwritten>
     requires { IsRunAsk ask.now }
     ensures made { IfOk result (λ all. Wrote O.held out.old out.new (capture profile.now ask.now)
         × (all.items ≡ tallies profile.now (sequence profile.now ask.now))) }
     ensures stops { IfErr result (Unmade O.held O.faults (capture profile.now ask.now) out.old out.new) }
 {
-    let Ok(mut walks) = walks_of(alloc, profile, ask.duration) else {
+    let plan = Plan::new(profile, ask.duration, ask.base);
+    let Ok(mut ready) = prepare(alloc, profile, &plan, ask) else {
         return Err(Unwritten::Memory);
     };
-    let Ok(mut all) = no_tallies(alloc, profile) else {
-        return Err(Unwritten::Memory);
-    };
-    let Ok(mut piece) = first_piece(alloc) else {
-        return Err(Unwritten::Memory);
-    };
-    match send(profile, ask, &mut walks, &mut all, &mut piece, out) {
-        Ok(()) => Ok(all),
+    match generate(rt, &mut ready, ask.base, out, gates) {
+        Ok(()) => Ok(ready.into_tallies()),
         Err(_) => Err(Unwritten::OutFault),
     }
 }
 
 /// Reads a profile and writes its capture, and answers what was sent.
-pub(crate) fn run<S: Source, O: Sink>(
+pub(crate) fn run<R: Threads + Sync, S: Source, O: Sink, G: Gate>(
+    rt: &R,
     alloc: Global,
     ask: &RunAsk,
     input: &mut S,
     out: &mut O,
+    gates: &mut [G],
 ) -> Result<Vec<Tally>, Stop>
     requires { IsRunAsk ask.now }
     ensures made { IfOk result (λ all. OnProfile (S.left input.old) (λ p.
@@ -84,7 +71,7 @@ pub(crate) fn run<S: Source, O: Sink>(
         Err(ReadingStop::ReadFault) => return Err(Stop::ReadFault),
         Err(ReadingStop::Memory) => return Err(Stop::Memory),
     };
-    match write_capture(alloc, &profile, ask, out) {
+    match write_capture(rt, alloc, &profile, ask, out, gates) {
         Ok(all) => Ok(all),
         Err(Unwritten::OutFault) => Err(Stop::OutFault),
         Err(Unwritten::Memory) => Err(Stop::Memory),

@@ -1,3 +1,4 @@
 pub mod Fixed
 pub mod Steps
 pub mod Theorem
+pub mod Ends

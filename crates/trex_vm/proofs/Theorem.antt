@@ -1,108 +1,183 @@
 -- Lists of instructions: each finds its header when its turn comes, and what was fixed verifies at the end.
 use Rattle.std.proofs.Common.{◌≡◌, ℕ, ◌+◌, ◌-◌, ◌<◌, ◌≤◌, List, [], ◌∷◌, ◌++◌, length, get_or, take, refl, sym, ap, subst, ◌∙◌, arith, cond, Bool, true, false, Option, Some, None, is_some, All}
-use Rattle.std.proofs.lemmas.List.{take_more}
+use Rattle.std.proofs.lemmas.Bool.{false≢true, false_from_ne_true, or_parts}
+use Rattle.std.proofs.lemmas.List.{get_or-take, length-take-le, take_more}
 use Rattle.std.proofs.lemmas.List.Elements.{recursion_from_All, All-from_recursion, All-take}
-use Rattle.std.specs.List.{AllByRecursion}
+use Rattle.std.proofs.lemmas.List.Folds.{list_any_at}
+use Rattle.std.specs.List.{AllByRecursion, list_any}
 use Rattle.trex_fields.proofs.Puts.{length-put, get_or-put_before}
 use Rattle.trex_stamp.specs.declared.header.Stamp.{Stamp}
 use Rattle.trex_stamp.specs.Stamp.{stamp_bytes}
+use Rattle.trex_vars.specs.declared.value.VarValue.{VarValue}
 use Rattle.trex_vm.specs.declared.instr.Instr.{Instr}
-use Rattle.trex_vm.specs.declared.instr.Instr.TheVariants.{FixIpv4, FixL4}
-use Rattle.trex_vm.specs.Packet.{wrote, applied, front, packet}
-use Rattle.trex_vm.specs.Cover.{writes_at, writes_size, Writes, Covers, StaysFixed, HeaderVerifies}
-use Rattle.trex_vm.specs.Program.{Plan, room, FindsHeader, KeepsHeader, KeepsShape, Accepts, IsProgram, IsTemplateOf, plan_of}
-use Rattle.trex_vm.proofs.Steps.{SameHeader, length-wrote, length-applied, get_or-applied, applied-append, FindsHeader-same, FindsHeader-wider, FindsHeader-place, wrote-verifies, HeaderVerifies-same}
+use Rattle.trex_vm.specs.declared.instr.Instr.TheVariants.{Write, WriteMask, FixIpv4, FixL4, Trim}
+use Rattle.trex_vm.specs.Packet.{wrote, applied, trimmed, stamped, front, packet}
+use Rattle.trex_vm.specs.Cover.{writes_at, writes_size, writes_byte, Covers, StaysFixed, HeaderVerifies}
+use Rattle.trex_vm.specs.Rules.{writes_past, misses_header, header_place, touches, touches_shape}
+use Rattle.trex_vm.specs.Program.{Plan, room, IsProgram, IsTemplateOf, AreValuesOf}
+use Rattle.trex_vm.proofs.Steps.{SameHeader, length-wrote, length-applied, get_or-applied, applied-append, finds_ipv4, finds_l4, misses_header-same, misses_header-wider, writes_past-wider, place-within, wrote-verifies, HeaderVerifies-same}
+
+-- a test that no instruction of a list passes fails at each
+pub none_pass : (p : Instr → Bool) (instrs : List Instr) → list_any p instrs ≡ false → All (λ i. p i ≡ false) instrs
+none_pass p instrs none = λ k d below. false_from_ne_true (p (get_or instrs k d)) (λ passes. false≢true (sym none ∙ list_any_at p instrs k d below passes))
+
+-- no instruction of the list touches the header at a place
+abbrev pub KeepsHeader : List Instr → Option ℕ → Type 0
+KeepsHeader instrs place = All (λ i. touches i place ≡ false) instrs
+
+-- no instruction of the list touches the header that this one names
+abbrev pub KeepsShape : List Instr → Instr → Type 0
+KeepsShape instrs other = KeepsHeader instrs (header_place other)
+
+-- what a list of instructions and its bytes have: each writes and finds its header within the bytes, and none touches a header's shape
+pub record Fit (instrs : List Instr) (b : List ℕ) (limit : ℕ) : Type 0 where
+  pub places : All (λ i. writes_past limit i ≡ false) instrs
+  pub headers : All (λ i. misses_header b limit i ≡ false) instrs
+  pub shape : All (KeepsShape instrs) instrs
+
+pub KeepsShape-none : (instrs : List Instr) → list_any (touches_shape instrs) instrs ≡ false → All (KeepsShape instrs) instrs
+KeepsShape-none instrs none = λ k d below. λ j e within.
+    none_pass (λ other. touches (get_or instrs j e) (header_place other)) instrs (none_pass (touches_shape instrs) instrs none j e within) k d below
 
 -- one more instruction
-pub applied-more : (instrs : List Instr) (b : List ℕ) (i : ℕ) (d : Instr) → i < length instrs
-    → applied (take (i + 1) instrs) b ≡ wrote (get_or instrs i d) (applied (take i instrs) b)
-applied-more instrs b i d below = ap (λ (xs : List Instr). applied xs b) (take_more instrs i d below) ∙ applied-append (take i instrs) (get_or instrs i d ∷ []) b
+pub applied-more : (values : List VarValue) (instrs : List Instr) (b : List ℕ) (i : ℕ) (d : Instr) → i < length instrs
+    → applied values (take (i + 1) instrs) b ≡ wrote values (get_or instrs i d) (applied values (take i instrs) b)
+applied-more values instrs b i d below = ap (λ (xs : List Instr). applied values xs b) (take_more instrs i d below) ∙ applied-append values (take i instrs) (get_or instrs i d ∷ []) b
 
-All-places : (instrs : List Instr) (b : List ℕ) (limit : ℕ) → All (FindsHeader b limit) instrs → All (λ i. writes_at i + writes_size i ≤ limit) instrs
-All-places instrs b limit found = λ k d below. FindsHeader-place (get_or instrs k d) b limit (found k d below)
+All-places : (instrs : List Instr) (b : List ℕ) (limit : ℕ) → Fit instrs b limit → All (λ i. writes_at i + writes_size i ≤ limit) instrs
+All-places instrs b limit fit = λ k d below. place-within (get_or instrs k d) b limit (fit.places k d below) (fit.headers k d below)
 
--- instructions that write neither byte 0 nor byte 9 of a header keep them
-keeps_header : (instrs : List Instr) (b : List ℕ) (n at : ℕ) → All (λ i. writes_at i + writes_size i ≤ n) instrs → n ≤ length b → KeepsHeader instrs at
-    → (get_or b at 0 ≡ get_or (applied instrs b) at 0) × (get_or b (at + 9) 0 ≡ get_or (applied instrs b) (at + 9) 0)
-keeps_header instrs b n at places room keeps =
-    let within = recursion_from_All (λ i. writes_at i + writes_size i ≤ n) instrs places in (
-      sym (get_or-applied instrs b n at within room (recursion_from_All (λ i. ¬ Writes i at) instrs (λ k d below. (keeps k d below).0))),
-      sym (get_or-applied instrs b n (at + 9) within room (recursion_from_All (λ i. ¬ Writes i (at + 9)) instrs (λ k d below. (keeps k d below).1))),
+-- instructions that don't touch a header keep its first byte and its protocol
+keeps_header : (values : List VarValue) (instrs : List Instr) (b : List ℕ) (n at : ℕ) → All (λ i. writes_at i + writes_size i ≤ n) instrs → n ≤ length b → KeepsHeader instrs (Some at)
+    → (get_or b at 0 ≡ get_or (applied values instrs b) at 0) × (get_or b (at + 9) 0 ≡ get_or (applied values instrs b) (at + 9) 0)
+keeps_header values instrs b n at places wide keeps =
+    let within = recursion_from_All (λ i. writes_at i + writes_size i ≤ n) instrs places in
+    let both : (k : ℕ) (d : Instr) → k < length instrs → (writes_byte (get_or instrs k d) at ≡ false) × (writes_byte (get_or instrs k d) (at + 9) ≡ false) =
+    λ k d below. or_parts (writes_byte (get_or instrs k d) at) (writes_byte (get_or instrs k d) (at + 9)) (keeps k d below) in (
+      sym (get_or-applied values instrs b n at within wide (recursion_from_All (λ i. writes_byte i at ≡ false) instrs (λ k d below. (both k d below).0))),
+      sym (get_or-applied values instrs b n (at + 9) within wide (recursion_from_All (λ i. writes_byte i (at + 9) ≡ false) instrs (λ k d below. (both k d below).1))),
     )
 
-SameHeader-applied : (instrs : List Instr) (i : Instr) (b : List ℕ) (n : ℕ) → All (λ j. writes_at j + writes_size j ≤ n) instrs → n ≤ length b → KeepsShape instrs i
-    → SameHeader i b (applied instrs b)
-SameHeader-applied instrs (FixIpv4 at) b n places room keeps = keeps_header instrs b n at places room keeps
-SameHeader-applied instrs (FixL4 ip header kind) b n places room keeps = keeps_header instrs b n ip places room keeps
+SameHeader-applied : (values : List VarValue) (instrs : List Instr) (i : Instr) (b : List ℕ) (n : ℕ) → All (λ j. writes_at j + writes_size j ≤ n) instrs → n ≤ length b → KeepsShape instrs i
+    → SameHeader i b (applied values instrs b)
+SameHeader-applied values instrs (Write from at add big) b n places wide keeps = tt
+SameHeader-applied values instrs (WriteMask from at cast mask shift add big) b n places wide keeps = tt
+SameHeader-applied values instrs (FixIpv4 at) b n places wide keeps = keeps_header values instrs b n at places wide keeps
+SameHeader-applied values instrs (FixL4 ip header kind) b n places wide keeps = keeps_header values instrs b n ip places wide keeps
+SameHeader-applied values instrs (Trim from) b n places wide keeps = tt
 
-KeepsShape-take : (n : ℕ) (instrs : List Instr) (i : Instr) → KeepsShape instrs i → KeepsShape (take n instrs) i
-KeepsShape-take n instrs (FixIpv4 at) keeps = All-take (λ other. (¬ Writes other at) × (¬ Writes other (at + 9))) n instrs keeps
-KeepsShape-take n instrs (FixL4 ip header kind) keeps = All-take (λ other. (¬ Writes other ip) × (¬ Writes other (ip + 9))) n instrs keeps
+-- each instruction writes and finds its header when its turn comes
+pub Fit-in_turn : (values : List VarValue) (instrs : List Instr) (b : List ℕ) (i : ℕ) (d : Instr) → Fit instrs b (length b) → i < length instrs
+    → (writes_past (length (applied values (take i instrs) b)) (get_or instrs i d) ≡ false)
+    × (misses_header (applied values (take i instrs) b) (length (applied values (take i instrs) b)) (get_or instrs i d) ≡ false)
+Fit-in_turn values instrs b i d fit below =
+    let c = applied values (take i instrs) b in
+    let it = get_or instrs i d in
+    let places = All-take (λ j. writes_at j + writes_size j ≤ length b) i instrs (All-places instrs b (length b) fit) in
+    let long : length c ≡ length b = length-applied values (take i instrs) b (length b) (recursion_from_All (λ j. writes_at j + writes_size j ≤ length b) (take i instrs) places) (omega arith) in
+    let kept = All-take (λ j. touches j (header_place it) ≡ false) i instrs (fit.shape i d below) in
+    let same = SameHeader-applied values (take i instrs) it b (length b) places (omega arith) kept in (
+      writes_past-wider it (length b) (length c) (omega arith) (fit.places i d below),
+      misses_header-wider it c (length b) (length c) (omega arith) (sym (misses_header-same it b c (length b) same) ∙ fit.headers i d below),
+    )
 
--- each instruction finds its header when its turn comes
-pub FindsHeader-in_turn : (instrs : List Instr) (b : List ℕ) (i : ℕ) (d : Instr) → All (FindsHeader b (length b)) instrs → All (KeepsShape instrs) instrs → i < length instrs
-    → FindsHeader (applied (take i instrs) b) (length (applied (take i instrs) b)) (get_or instrs i d)
-FindsHeader-in_turn instrs b i d found shape below =
-    let places = All-take (λ j. writes_at j + writes_size j ≤ length b) i instrs (All-places instrs b (length b) found) in
-    let long = length-applied (take i instrs) b (length b) (recursion_from_All (λ j. writes_at j + writes_size j ≤ length b) (take i instrs) places) (omega arith) in
-    let same = SameHeader-applied (take i instrs) (get_or instrs i d) b (length b) places (omega arith) (KeepsShape-take i instrs (get_or instrs i d) (shape i d below)) in
-    FindsHeader-wider (get_or instrs i d) (applied (take i instrs) b) (length b) (length (applied (take i instrs) b)) (omega arith)
-    (FindsHeader-same (get_or instrs i d) b (applied (take i instrs) b) (length b) same (found i d below))
+pub length-stamped : (stamp : Option Stamp) (b : List ℕ) → (is_some stamp ≡ true → 16 ≤ length b) → length (stamped stamp b) ≡ length b
+length-stamped None b long = refl
+length-stamped (Some s) b long = let wide = long refl in length-put (length b - 16) (stamp_bytes s) b (omega arith)
 
--- the front has the template's length
-pub length-front : (stamp : Option Stamp) (template : List ℕ) → (is_some stamp ≡ true → 16 ≤ length template) → length (front stamp template) ≡ length template
-length-front None template long = refl
-length-front (Some s) template long = let room = long refl in length-put (length template - 16) (stamp_bytes s) template (omega arith)
-
--- the front has the template's bytes in front of the latency header
-get_or-front : (stamp : Option Stamp) (template : List ℕ) (k : ℕ) → (is_some stamp ≡ true → 16 ≤ length template)
-    → k < cond (is_some stamp) (length template - 16) (length template) → get_or (front stamp template) k 0 ≡ get_or template k 0
-get_or-front None template k long below = refl
-get_or-front (Some s) template k long below = let room = long refl in get_or-put_before (length template - 16) (stamp_bytes s) template k 0 (omega arith) below
+-- the bytes in front of the latency header stay
+get_or-stamped : (stamp : Option Stamp) (b : List ℕ) (k : ℕ) → (is_some stamp ≡ true → 16 ≤ length b)
+    → k < cond (is_some stamp) (length b - 16) (length b) → get_or (stamped stamp b) k 0 ≡ get_or b k 0
+get_or-stamped None b k long below = refl
+get_or-stamped (Some s) b k long below = let wide = long refl in get_or-put_before (length b - 16) (stamp_bytes s) b k 0 (omega arith) below
 
 -- what a run of a program knows
-pub record Runs (p : Plan) (stamp : Option Stamp) (template : List ℕ) : Type 0 where
+pub record Runs (p : Plan) (values : List VarValue) (stamp : Option Stamp) (template : List ℕ) : Type 0 where
   pub program : IsProgram p
   pub meant : IsTemplateOf p template
+  pub valued : AreValuesOf p values
   pub stamps : is_some stamp ≡ p.stamps
 
-Runs-long : (p : Plan) (stamp : Option Stamp) (template : List ℕ) → Runs p stamp template → is_some stamp ≡ true → 16 ≤ length template
-Runs-long p stamp template runs is = let room = runs.program.stamp (sym runs.stamps ∙ is) in omega (arith, runs.program.trimmed, runs.meant.long)
+-- the packet's length
+abbrev pub cut : Plan → List VarValue → List ℕ → ℕ
+cut p values template = trimmed values p.instrs (length template)
+
+-- the packet's length lies from the least packet length to the template's length
+pub Runs-cut : (p : Plan) (values : List VarValue) (stamp : Option Stamp) (template : List ℕ) → Runs p values stamp template
+    → (p.least ≤ cut p values template) × (cut p values template ≤ length template)
+Runs-cut p values stamp template runs =
+    let same : cut p values template ≡ trimmed values p.instrs p.template = ap (trimmed values p.instrs) runs.meant.long in
+    (omega (arith, runs.valued.least), omega (arith, runs.valued.most, runs.meant.long))
+
+pub Runs-long : (p : Plan) (values : List VarValue) (stamp : Option Stamp) (template : List ℕ) → Runs p values stamp template → is_some stamp ≡ true
+    → 16 ≤ cut p values template
+Runs-long p values stamp template runs is =
+    let least = runs.program.stamp (sym runs.stamps ∙ is) in omega (arith, (Runs-cut p values stamp template runs).0)
 
 room-le : (t : Bool) (least long : ℕ) → least ≤ long → cond t (least - 16) least ≤ cond t (long - 16) long
 room-le true least long le = omega arith
 room-le false least long le = le
 
 -- the room ends in front of the latency header
-Runs-room : (p : Plan) (stamp : Option Stamp) (template : List ℕ) → Runs p stamp template
-    → room p ≤ cond (is_some stamp) (length template - 16) (length template)
-Runs-room p stamp template runs =
-    let P : Bool → Type 0 = λ t. room p ≤ cond t (length template - 16) (length template) in
-    subst P (sym runs.stamps) (room-le p.stamps p.least (length template) (omega (arith, runs.program.trimmed, runs.meant.long)))
+Runs-room : (p : Plan) (values : List VarValue) (stamp : Option Stamp) (template : List ℕ) → Runs p values stamp template
+    → room p ≤ cond (is_some stamp) (cut p values template - 16) (cut p values template)
+Runs-room p values stamp template runs =
+    let P : Bool → Type 0 = λ t. room p ≤ cond t (cut p values template - 16) (cut p values template) in
+    subst P (sym runs.stamps) (room-le p.stamps p.least (cut p values template) (Runs-cut p values stamp template runs).0)
 
 room-long : (t : Bool) (long : ℕ) → cond t (long - 16) long ≤ long
 room-long true long = omega arith
 room-long false long = omega arith
 
-SameHeader-front : (i : Instr) (p : Plan) (stamp : Option Stamp) (template : List ℕ) → Runs p stamp template → FindsHeader template (room p) i
-    → SameHeader i template (front stamp template)
-SameHeader-front (FixIpv4 at) p stamp template runs found =
-    let long = Runs-long p stamp template runs in
-    let within = Runs-room p stamp template runs in
-    (sym (get_or-front stamp template at long (omega (arith, found.1, found.2))), sym (get_or-front stamp template (at + 9) long (omega (arith, found.1, found.2))))
-SameHeader-front (FixL4 ip header kind) p stamp template runs found =
-    let long = Runs-long p stamp template runs in
-    let within = Runs-room p stamp template runs in
-    (sym (get_or-front stamp template ip long (omega (arith, found.0.1, found.0.2))), sym (get_or-front stamp template (ip + 9) long (omega (arith, found.0.1, found.0.2))))
+-- the front has the template's bytes within the room
+get_or-front : (p : Plan) (values : List VarValue) (stamp : Option Stamp) (template : List ℕ) (k : ℕ) → Runs p values stamp template → k < room p
+    → get_or template k 0 ≡ get_or (front p.instrs values stamp template) k 0
+get_or-front p values stamp template k runs below =
+    let n = cut p values template in
+    let sizes = Runs-cut p values stamp template runs in
+    let b = take n template in
+    let long : length b ≡ n = length-take-le n template sizes.1 in
+    let wide : is_some stamp ≡ true → 16 ≤ length b = λ is. omega (arith, Runs-long p values stamp template runs is) in
+    let P : ℕ → Type 0 = λ m. k < cond (is_some stamp) (m - 16) m in
+    let front_room : k < cond (is_some stamp) (n - 16) n = omega (arith, Runs-room p values stamp template runs) in
+    sym (get_or-stamped stamp b k wide (subst P (sym long) front_room) ∙ get_or-take n template k 0 (omega (arith, room-long (is_some stamp) n)))
 
--- each instruction finds its header in the front
-pub FindsHeader-front : (p : Plan) (stamp : Option Stamp) (template : List ℕ) → Runs p stamp template → All (FindsHeader (front stamp template) (length template)) p.instrs
-FindsHeader-front p stamp template runs = λ k d below.
-    let i = get_or p.instrs k d in
-    let found = runs.meant.headers k d below in
-    let same = SameHeader-front i p stamp template runs found in
-    let wide : room p ≤ length template = omega (arith, Runs-room p stamp template runs, room-long (is_some stamp) (length template)) in
-    FindsHeader-wider i (front stamp template) (room p) (length template) wide (FindsHeader-same i template (front stamp template) (room p) same found)
+SameHeader-front : (i : Instr) (p : Plan) (values : List VarValue) (stamp : Option Stamp) (template : List ℕ) → Runs p values stamp template
+    → misses_header template (room p) i ≡ false → SameHeader i template (front p.instrs values stamp template)
+SameHeader-front (Write from at add big) p values stamp template runs found = tt
+SameHeader-front (WriteMask from at cast mask shift add big) p values stamp template runs found = tt
+SameHeader-front (FixIpv4 at) p values stamp template runs found =
+    let has = finds_ipv4 template (room p) at found in
+    (get_or-front p values stamp template at runs (omega (arith, has.long, has.within)), get_or-front p values stamp template (at + 9) runs (omega (arith, has.long, has.within)))
+SameHeader-front (FixL4 ip header kind) p values stamp template runs found =
+    let has = (finds_l4 template (room p) ip header kind found).0 in
+    (get_or-front p values stamp template ip runs (omega (arith, has.long, has.within)), get_or-front p values stamp template (ip + 9) runs (omega (arith, has.long, has.within)))
+SameHeader-front (Trim from) p values stamp template runs found = tt
+
+pub length-front : (p : Plan) (values : List VarValue) (stamp : Option Stamp) (template : List ℕ) → Runs p values stamp template
+    → length (front p.instrs values stamp template) ≡ cut p values template
+length-front p values stamp template runs =
+    let n = cut p values template in
+    let long : length (take n template) ≡ n = length-take-le n template (Runs-cut p values stamp template runs).1 in
+    length-stamped stamp (take n template) (λ is. omega (arith, Runs-long p values stamp template runs is)) ∙ long
+
+-- the program's instructions fit its front
+pub Fit-front : (p : Plan) (values : List VarValue) (stamp : Option Stamp) (template : List ℕ) → Runs p values stamp template
+    → Fit p.instrs (front p.instrs values stamp template) (cut p values template)
+Fit-front p values stamp template runs =
+    let b = front p.instrs values stamp template in
+    let n = cut p values template in
+    let wide : room p ≤ n = omega (arith, Runs-room p values stamp template runs, room-long (is_some stamp) n) in
+    let places = none_pass (writes_past (room p)) p.instrs runs.program.places in
+    let headers = none_pass (misses_header template (room p)) p.instrs runs.meant.headers in
+    record {
+      places = λ k d below. writes_past-wider (get_or p.instrs k d) (room p) n wide (places k d below);
+      headers = λ k d below.
+          let i = get_or p.instrs k d in
+          let found = headers k d below in
+          misses_header-wider i b (room p) n wide (sym (misses_header-same i template b (room p) (SameHeader-front i p values stamp template runs found)) ∙ found);
+      shape = KeepsShape-none p.instrs runs.program.shape;
+    }
 
 parts : (P : Instr → Type 0) (before : List Instr) (fix : Instr) (later : List Instr) → AllByRecursion P (before ++ fix ∷ later)
     → AllByRecursion P before × P fix × AllByRecursion P later
@@ -113,59 +188,50 @@ parts P (x ∷ xs) fix later all = let rest = parts P xs fix later all.1 in ((al
 All-parts : (P : Instr → Type 0) (before : List Instr) (fix : Instr) (later : List Instr) → All P (before ++ fix ∷ later)
     → All P before × P fix × All P later
 All-parts P before fix later all =
-    let cut = parts P before fix later (recursion_from_All P (before ++ fix ∷ later) all) in
-    (All-from_recursion P before cut.0, cut.1, All-from_recursion P later cut.2)
-
-KeepsShape-parts : (before : List Instr) (fix : Instr) (later : List Instr) (i : Instr) → KeepsShape (before ++ fix ∷ later) i
-    → KeepsShape before i × KeepsShape later i
-KeepsShape-parts before fix later (FixIpv4 at) keeps = let cut = All-parts (λ other. (¬ Writes other at) × (¬ Writes other (at + 9))) before fix later keeps in (cut.0, cut.2)
-KeepsShape-parts before fix later (FixL4 ip header kind) keeps =
-    let cut = All-parts (λ other. (¬ Writes other ip) × (¬ Writes other (ip + 9))) before fix later keeps in (cut.0, cut.2)
+    let pieces = parts P before fix later (recursion_from_All P (before ++ fix ∷ later) all) in
+    (All-from_recursion P before pieces.0, pieces.1, All-from_recursion P later pieces.2)
 
 -- a header that was fixed verifies at the end, where no later instruction writes what its checksum covers
-applied-verifies : (before : List Instr) (fix : Instr) (later : List Instr) (b : List ℕ) → All (FindsHeader b (length b)) (before ++ fix ∷ later)
-    → All (KeepsShape (before ++ fix ∷ later)) (before ++ fix ∷ later) → StaysFixed fix later (applied (before ++ fix ∷ later) b)
-    → HeaderVerifies fix (applied (before ++ fix ∷ later) b)
-applied-verifies before fix later b found shape stays =
+applied-verifies : (values : List VarValue) (before : List Instr) (fix : Instr) (later : List Instr) (b : List ℕ) → Fit (before ++ fix ∷ later) b (length b)
+    → StaysFixed fix later (applied values (before ++ fix ∷ later) b) → HeaderVerifies fix (applied values (before ++ fix ∷ later) b)
+applied-verifies values before fix later b fit stays =
     let n = length b in
     let Fits : Instr → Type 0 = λ i. writes_at i + writes_size i ≤ n in
-    let places = All-parts Fits before fix later (All-places (before ++ fix ∷ later) b n found) in
-    let kept = KeepsShape-parts before fix later fix (All-parts (KeepsShape (before ++ fix ∷ later)) before fix later shape).1 in
-    let start = applied before b in
-    let start_long : length start ≡ n = length-applied before b n (recursion_from_All Fits before places.0) (omega arith) in
-    let start_finds = FindsHeader-wider fix start n (length start) (omega arith) (FindsHeader-same fix b start n (SameHeader-applied before fix b n places.0 (omega arith) kept.0) (All-parts (FindsHeader b n) before fix later found).1) in
-    let fixed = wrote fix start in
-    let fixed_long : length fixed ≡ length start = length-wrote fix start (omega (arith, places.1)) in
-    let end = applied later fixed in
-    let room : n ≤ length fixed = omega arith in
-    let end_long : length end ≡ length fixed = length-applied later fixed n (recursion_from_All Fits later places.2) room in
-    let whole : applied (before ++ fix ∷ later) b ≡ end = applied-append before (fix ∷ later) b in
+    let places = All-parts Fits before fix later (All-places (before ++ fix ∷ later) b n fit) in
+    let kept = All-parts (λ i. touches i (header_place fix) ≡ false) before fix later (All-parts (KeepsShape (before ++ fix ∷ later)) before fix later fit.shape).1 in
+    let start = applied values before b in
+    let start_long : length start ≡ n = length-applied values before b n (recursion_from_All Fits before places.0) (omega arith) in
+    let same_start = SameHeader-applied values before fix b n places.0 (omega arith) kept.0 in
+    let found = (All-parts (λ i. misses_header b n i ≡ false) before fix later fit.headers).1 in
+    let start_finds = misses_header-wider fix start n (length start) (omega arith) (sym (misses_header-same fix b start n same_start) ∙ found) in
+    let fixed = wrote values fix start in
+    let fixed_long : length fixed ≡ length start = length-wrote values fix start (omega (arith, places.1)) in
+    let end = applied values later fixed in
+    let wide : n ≤ length fixed = omega arith in
+    let end_long : length end ≡ length fixed = length-applied values later fixed n (recursion_from_All Fits later places.2) wide in
+    let whole : applied values (before ++ fix ∷ later) b ≡ end = applied-append values before (fix ∷ later) b in
     let agree : (k : ℕ) → Covers fix end k → get_or fixed k 0 ≡ get_or end k 0 = λ k covers.
-    sym (get_or-applied later fixed n k (recursion_from_All Fits later places.2) room (recursion_from_All (λ i. ¬ Writes i k) later ((subst (StaysFixed fix later) whole stays) k covers))) in
+    sym (get_or-applied values later fixed n k (recursion_from_All Fits later places.2) wide (recursion_from_All (λ i. writes_byte i k ≡ false) later ((subst (StaysFixed fix later) whole stays) k covers))) in
     subst (HeaderVerifies fix) (sym whole)
-    (HeaderVerifies-same fix fixed end (sym end_long) (SameHeader-applied later fix fixed n places.2 room kept.1) agree (wrote-verifies fix start start_finds))
+    (HeaderVerifies-same fix fixed end (sym end_long) (SameHeader-applied values later fix fixed n places.2 wide kept.2) agree (wrote-verifies values fix start start_finds))
 
 -- every header that a run fixed verifies, where no later instruction writes what its checksum covers
-pub packet-verifies : (p : Plan) (stamp : Option Stamp) (template : List ℕ) → Runs p stamp template
+pub packet-verifies : (p : Plan) (values : List VarValue) (stamp : Option Stamp) (template : List ℕ) → Runs p values stamp template
     → (before : List Instr) (fix : Instr) (later : List Instr) → p.instrs ≡ before ++ fix ∷ later
-    → StaysFixed fix later (packet p.instrs stamp template) → HeaderVerifies fix (packet p.instrs stamp template)
-packet-verifies p stamp template runs before fix later is =
-    let b = front stamp template in
-    let long : length b ≡ length template = length-front stamp template (Runs-long p stamp template runs) in
-    let Goal : List Instr → Type 0 = λ instrs. StaysFixed fix later (applied instrs b) → HeaderVerifies fix (applied instrs b) in
-    let Found : ℕ → Type 0 = λ n. All (FindsHeader b n) p.instrs in
-    let found : All (FindsHeader b (length b)) p.instrs = subst Found (sym long) (FindsHeader-front p stamp template runs) in
-    let FoundIn : List Instr → Type 0 = λ instrs. All (FindsHeader b (length b)) instrs in
-    let ShapeOf : List Instr → Type 0 = λ instrs. All (KeepsShape instrs) instrs in
-    subst Goal (sym is) (applied-verifies before fix later b (subst FoundIn is found) (subst ShapeOf is runs.program.shape))
+    → StaysFixed fix later (packet p.instrs values stamp template) → HeaderVerifies fix (packet p.instrs values stamp template)
+packet-verifies p values stamp template runs before fix later is =
+    let b = front p.instrs values stamp template in
+    let Goal : List Instr → Type 0 = λ instrs. StaysFixed fix later (applied values instrs b) → HeaderVerifies fix (applied values instrs b) in
+    let FitWithin : ℕ → Type 0 = λ n. Fit p.instrs b n in
+    let FitIn : List Instr → Type 0 = λ instrs. Fit instrs b (length b) in
+    let fit : Fit p.instrs b (length b) = subst FitWithin (sym (length-front p values stamp template runs)) (Fit-front p values stamp template runs) in
+    subst Goal (sym is) (applied-verifies values before fix later b (subst FitIn is fit))
 
-pub length-packet : (p : Plan) (stamp : Option Stamp) (template : List ℕ) → Runs p stamp template → length (packet p.instrs stamp template) ≡ length template
-length-packet p stamp template runs =
-    let long = length-front stamp template (Runs-long p stamp template runs) in
-    let Fits : Instr → Type 0 = λ i. writes_at i + writes_size i ≤ length template in
-    length-applied p.instrs (front stamp template) (length template) (recursion_from_All Fits p.instrs (All-places p.instrs (front stamp template) (length template) (FindsHeader-front p stamp template runs))) (omega arith) ∙ long
-
--- a program is meant for the template that it was accepted for
-pub IsTemplateOf-accepted : (instrs : List Instr) (template : List ℕ) (stamps : Bool) → Accepts (plan_of instrs template stamps) template
-    → IsTemplateOf (plan_of instrs template stamps) template
-IsTemplateOf-accepted instrs template stamps accepts = record { long = refl; headers = accepts.headers }
+pub length-packet : (p : Plan) (values : List VarValue) (stamp : Option Stamp) (template : List ℕ) → Runs p values stamp template
+    → length (packet p.instrs values stamp template) ≡ cut p values template
+length-packet p values stamp template runs =
+    let n = cut p values template in
+    let b = front p.instrs values stamp template in
+    let Fits : Instr → Type 0 = λ i. writes_at i + writes_size i ≤ n in
+    let long = length-front p values stamp template runs in
+    length-applied values p.instrs b n (recursion_from_All Fits p.instrs (All-places p.instrs b n (Fit-front p values stamp template runs))) (omega arith) ∙ long

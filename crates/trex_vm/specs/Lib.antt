@@ -1,4 +1,6 @@
 pub mod Fix
+pub mod Write
 pub mod Packet
 pub mod Cover
+pub mod Rules
 pub mod Program

@@ -1,31 +1,45 @@
 -- A packet, made of its template. Own.
-use Rattle.std.specs.Prelude.{ℕ, ◌-◌, List, [], ◌∷◌, length, Option, Some, None}
+use Rattle.std.specs.Prelude.{ℕ, ◌-◌, List, [], ◌∷◌, length, take, Option, Some, None}
 use Rattle.trex_fields.specs.Bytes.{put}
 use Rattle.trex_stamp.specs.declared.header.Stamp.{Stamp}
 use Rattle.trex_stamp.specs.Stamp.{stamp_bytes}
+use Rattle.trex_vars.specs.declared.value.VarValue.{VarValue}
 use Rattle.trex_vm.specs.declared.instr.Instr.{Instr}
-use Rattle.trex_vm.specs.declared.instr.Instr.TheVariants.{FixIpv4, FixL4}
+use Rattle.trex_vm.specs.declared.instr.Instr.TheVariants.{Write, WriteMask, FixIpv4, FixL4, Trim}
 use Rattle.trex_vm.specs.Fix.{fixed_ipv4, fixed_l4}
+use Rattle.trex_vm.specs.Write.{number_in, sum_in, shifted, written, written_mask}
 
--- the bytes after one instruction
-abbrev pub wrote : Instr → List ℕ → List ℕ
-wrote (FixIpv4 at) bytes = fixed_ipv4 at bytes
-wrote (FixL4 ip header kind) bytes = fixed_l4 kind ip header bytes
+-- the bytes after one instruction: a trim has acted before
+abbrev pub wrote : List VarValue → Instr → List ℕ → List ℕ
+wrote values (Write from at add big) bytes = written big from.size at (sum_in values from add) bytes
+wrote values (WriteMask from at cast mask shift add big) bytes = written_mask big cast at mask (shifted shift (sum_in values from add)) bytes
+wrote values (FixIpv4 at) bytes = fixed_ipv4 at bytes
+wrote values (FixL4 ip header kind) bytes = fixed_l4 kind ip header bytes
+wrote values (Trim from) bytes = bytes
 
 -- the bytes after the instructions, one after another
-abbrev pub applied : List Instr → List ℕ → List ℕ
-applied [] bytes = bytes
-applied (instr ∷ rest) bytes = applied rest (wrote instr bytes)
+abbrev pub applied : List VarValue → List Instr → List ℕ → List ℕ
+applied values [] bytes = bytes
+applied values (instr ∷ rest) bytes = applied values rest (wrote values instr bytes)
+
+-- the packet's length: the number of the trim, or the whole template's length where there is none
+abbrev pub trimmed : List VarValue → List Instr → ℕ → ℕ
+trimmed values [] whole = whole
+trimmed values (Trim from ∷ rest) whole = number_in values from
+trimmed values (Write from at add big ∷ rest) whole = trimmed values rest whole
+trimmed values (WriteMask from at cast mask shift add big ∷ rest) whole = trimmed values rest whole
+trimmed values (FixIpv4 at ∷ rest) whole = trimmed values rest whole
+trimmed values (FixL4 ip header kind ∷ rest) whole = trimmed values rest whole
 
 -- the bytes with the latency header, where there is one, in place of the last 16
 abbrev pub stamped : Option Stamp → List ℕ → List ℕ
 stamped None bytes = bytes
 stamped (Some s) bytes = put (length bytes - 16) (stamp_bytes s) bytes
 
--- the packet before its instructions: the template, stamped
-abbrev pub front : Option Stamp → List ℕ → List ℕ
-front stamp template = stamped stamp template
+-- the packet before its instructions: the template, cut to its length, and stamped
+abbrev pub front : List Instr → List VarValue → Option Stamp → List ℕ → List ℕ
+front instrs values stamp template = stamped stamp (take (trimmed values instrs (length template)) template)
 
 -- the packet: its front after all instructions
-abbrev pub packet : List Instr → Option Stamp → List ℕ → List ℕ
-packet instrs stamp template = applied instrs (front stamp template)
+abbrev pub packet : List Instr → List VarValue → Option Stamp → List ℕ → List ℕ
+packet instrs values stamp template = applied values instrs (front instrs values stamp template)

@@ -1,9 +1,15 @@
--- Programs: which are accepted, and for which templates they are meant. Own.
-use Rattle.std.specs.Prelude.{◌≡◌, ℕ, ◌+◌, ◌-◌, ◌/◌, ◌≤◌, Bool, IsTrue, if◌then◌else◌, List, length, slice_index, Option, Some, IfSome, All}
+-- Programs, and for which templates and values they are meant. Own.
+use Rattle.std.specs.Prelude.{◌≡◌, ℕ, ◌<◌, ◌≤◌, negsuc, pos, ◌≤ℤ◌, Bool, false, IsTrue, List, length, Option, Some, None, IfSome, All}
+use Rattle.std.specs.List.{list_any, count_by}
+use Rattle.trex_fields.specs.Bytes.{IsSize}
+use Rattle.trex_vars.specs.Variable.{Variable}
+use Rattle.trex_vars.specs.Check.{fault_of}
+use Rattle.trex_vars.specs.declared.value.VarValue.{VarValue}
+use Rattle.trex_vm.specs.declared.instr.Operand.{Operand}
 use Rattle.trex_vm.specs.declared.instr.Instr.{Instr}
-use Rattle.trex_vm.specs.declared.instr.Instr.TheVariants.{FixIpv4, FixL4}
-use Rattle.trex_vm.specs.Fix.{header_length, least_segment, protocol_of}
-use Rattle.trex_vm.specs.Cover.{Writes, writes_at, writes_size}
+use Rattle.trex_vm.specs.declared.instr.Instr.TheVariants.{Write, WriteMask, FixIpv4, FixL4, Trim}
+use Rattle.trex_vm.specs.Packet.{trimmed}
+use Rattle.trex_vm.specs.Rules.{least_length, room_of, is_trim, writes_past, misses_header, touches_shape}
 
 -- a program: its instructions, its template's length, its least packet length, and whether it stamps
 pub record Plan : Type 0 where
@@ -12,55 +18,63 @@ pub record Plan : Type 0 where
   pub least : ℕ
   pub stamps : Bool
 
--- the program of some instructions for a template: with no trim the least length is the template's
-abbrev pub plan_of : List Instr → List ℕ → Bool → Plan
-plan_of instrs template stamps = record { instrs = instrs; template = length template; least = length template; stamps = stamps }
+-- the program of some instructions and their variables for a template
+abbrev pub plan_of : List Instr → List Variable → List ℕ → Bool → Plan
+plan_of instrs vars template stamps =
+    record { instrs = instrs; template = length template; least = least_length vars instrs (length template); stamps = stamps }
 
--- the bytes of the shortest packet in front of the latency header
+-- the bytes of the shortest packet in front of its latency header
 abbrev pub room : Plan → ℕ
-room p = if p.stamps then p.least - 16 else p.least
+room p = room_of p.least p.stamps
 
--- an IPv4 header stands at a place and ends within a room: version 4, at least five words long (RFC 791, section 3.1)
-abbrev pub HasIpv4 : List ℕ → ℕ → ℕ → Type 0
-HasIpv4 bytes limit at = (slice_index bytes at / 16 ≡ 4) × (20 ≤ header_length bytes at) × (at + header_length bytes at ≤ limit)
+-- the operand that an instruction takes
+abbrev pub operand_of : Instr → Option Operand
+operand_of (Write from at add big) = Some from
+operand_of (WriteMask from at cast mask shift add big) = Some from
+operand_of (FixIpv4 at) = None
+operand_of (FixL4 ip header kind) = None
+operand_of (Trim from) = Some from
 
--- an instruction finds its header in the bytes, within a room: for a segment also its IPv4 header's length, its protocol, and its own header
-abbrev pub FindsHeader : List ℕ → ℕ → Instr → Type 0
-FindsHeader bytes limit (FixIpv4 at) = HasIpv4 bytes limit at
-FindsHeader bytes limit (FixL4 ip header kind) =
-    HasIpv4 bytes limit ip × (header ≡ header_length bytes ip) × (slice_index bytes (ip + 9) ≡ protocol_of kind)
-    × (ip + header + least_segment kind ≤ limit)
+-- the operand's variable is one of so many
+abbrev pub TakesFrom : ℕ → Instr → Type 0
+TakesFrom count instr = IfSome (operand_of instr) (λ from. from.var < count)
 
--- the place of the IPv4 header that an instruction names
-abbrev pub header_place : Instr → Option ℕ
-header_place (FixIpv4 at) = Some at
-header_place (FixL4 ip header kind) = Some ip
+-- a write has 1, 2, 4 or 8 bytes, and a shift goes by at most 63 bits
+abbrev pub IsFormed : Instr → Type 0
+IsFormed (Write from at add big) = IsSize from.size
+IsFormed (WriteMask from at cast mask shift add big) = IsSize cast × (negsuc 62 ≤ℤ shift) × (shift ≤ℤ pos 63)
+IsFormed (FixIpv4 at) = Unit {0}
+IsFormed (FixL4 ip header kind) = Unit {0}
+IsFormed (Trim from) = Unit {0}
 
--- no instruction of the list writes byte 0 or byte 9 of the header at a place: its version and length, and its protocol
-abbrev pub KeepsHeader : List Instr → ℕ → Type 0
-KeepsHeader instrs at = All (λ other. (¬ Writes other at) × (¬ Writes other (at + 9))) instrs
+-- each operand's variable is one of the variables, and each instruction is formed
+pub record AreOperandsOf (vars : List Variable) (instrs : List Instr) : Type 0 where
+  pub operands : All (TakesFrom (length vars)) instrs
+  pub formed : All IsFormed instrs
 
--- no instruction of the list writes byte 0 or byte 9 of the header that this one names
-abbrev pub KeepsShape : List Instr → Instr → Type 0
-KeepsShape instrs instr = IfSome (header_place instr) (KeepsHeader instrs)
-
--- a program is accepted for a template: a stamped packet has 30 bytes, each fix finds its header within the room, and no instruction
--- touches byte 0 or byte 9 of a header that a fix names
-pub record Accepts (p : Plan) (template : List ℕ) : Type 0 where
-  pub stamp : IsTrue p.stamps → 30 ≤ p.least
-  pub headers : All (FindsHeader template (room p)) p.instrs
-  pub shape : All (KeepsShape p.instrs) p.instrs
+-- no variable has a fault
+abbrev pub AreSound : List Variable → Type 0
+AreSound vars = All (λ variable. fault_of variable ≡ None) vars
 
 -- what holds of every program
 pub record IsProgram (p : Plan) : Type 0 where
   pub long : 14 ≤ p.least
   pub stamp : IsTrue p.stamps → 30 ≤ p.least
-  pub trimmed : p.least ≤ p.template
+  pub cut : p.least ≤ p.template
   pub short : p.template ≤ 9216
-  pub places : All (λ instr. writes_at instr + writes_size instr ≤ room p) p.instrs
-  pub shape : All (KeepsShape p.instrs) p.instrs
+  pub trims : count_by is_trim p.instrs ≤ 1
+  pub formed : All IsFormed p.instrs
+  pub places : list_any (writes_past (room p)) p.instrs ≡ false
+  pub shape : list_any (touches_shape p.instrs) p.instrs ≡ false
 
 -- the program is meant for the template: its length, and the headers that the program fixes
 pub record IsTemplateOf (p : Plan) (template : List ℕ) : Type 0 where
   pub long : length template ≡ p.template
-  pub headers : All (FindsHeader template (room p)) p.instrs
+  pub headers : list_any (misses_header template (room p)) p.instrs ≡ false
+
+-- the values are values of the program's variables: each operand's is there, and a trim's number lies from the least packet length to the
+-- template's length
+pub record AreValuesOf (p : Plan) (values : List VarValue) : Type 0 where
+  pub operands : All (TakesFrom (length values)) p.instrs
+  pub least : p.least ≤ trimmed values p.instrs p.template
+  pub most : trimmed values p.instrs p.template ≤ p.template

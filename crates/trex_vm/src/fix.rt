@@ -1,6 +1,6 @@
 // Checksums of headers, written into a packet.
 
-ghost use Rattle.std.specs.Prelude.{◌≡◌, ◌+◌, ◌*◌, ◌<◌, ◌≤◌, ◌++◌, IsTrue, length};
+ghost use Rattle.std.specs.Prelude.{◌≡◌, ◌+◌, ◌*◌, ◌%◌, ◌<◌, ◌≤◌, ◌++◌, IsTrue, length};
 ghost use Rattle.std.specs.List.{slice_range};
 ghost use Rattle.trex_sum.specs.Checksum.{sum_of};
 ghost use Rattle.trex_vm.specs.Fix.{header_length, fixed_ipv4, fixed_l4, protocol_of, least_segment, sum_place, written_sum, segment_length, segment_fits, segment_at, pseudo_header, summed};
@@ -25,12 +25,11 @@ const UDP_LENGTH: usize = 4;
 
 const ALL_ONES: u16 = 0xffff;
 
-/// The length in bytes of the IPv4 header at a place (RFC 791, section 3.1).
-pub(crate) fn length_of_header(bytes: &[u8], at: usize) -> usize
-    requires { at < length bytes.now }
-    ensures { result ≡ header_length bytes.now at }
+/// The length in bytes of an IPv4 header, by its first byte, whose lower four bits count words of four bytes (RFC 791, section 3.1).
+pub(crate) fn words_to_bytes(first: u8) -> usize
+    ensures { result ≡ first % 16 * 4 }
 {
-    usize::from(bytes[at] % 16) * 4
+    usize::from(first % 16) * 4
 }
 
 /// Writes the checksum of the IPv4 header at a place.
@@ -39,7 +38,7 @@ pub(crate) fn fix_ipv4(packet: &mut [u8], at: usize)
     requires room { at + header_length packet.old at ≤ length packet.old }
     ensures { packet.new ≡ fixed_ipv4 at packet.old }
 {
-    let end = at + length_of_header(packet, at);
+    let end = at + words_to_bytes(packet[at]);
     write_be::<2>(packet, at + HEADER_SUM, 0);
     let sum = sum_words(&packet[at..end]);
     write_be::<2>(packet, at + HEADER_SUM, u64::from(ALL_ONES - fold(sum)));

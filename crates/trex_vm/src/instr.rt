@@ -1,3 +1,24 @@
+/// The part of a variable's value that an instruction takes.
+#[derive(Clone, Copy, PartialEq, Eq, Debug, Drop)]
+pub enum Part {
+    /// The number of a variable that has one.
+    Whole,
+    /// The IPv4 address of a pair.
+    Ip,
+    /// The port of a pair.
+    Port,
+}
+
+/// What an instruction takes from the variables of its stream.
+#[derive(Clone, Copy, PartialEq, Eq, Debug, Drop)]
+pub struct Operand {
+    /// The variable's place.
+    pub var: usize,
+    pub part: Part,
+    /// The bytes that the part is written in: 1, 2, 4 or 8.
+    pub size: u8,
+}
+
 /// Which kind of segment stands behind an IPv4 header.
 #[derive(Clone, Copy, PartialEq, Eq, Debug, Drop)]
 pub enum L4Kind {
@@ -7,9 +28,28 @@ pub enum L4Kind {
     Udp,
 }
 
-/// One step of a program over a packet's bytes. Places count from the packet's first byte.
+/// One step of a program over a packet's bytes. Places count from the packet's first byte. A number's bytes stand highest first where
+/// `big` is true, else lowest first.
 #[derive(Clone, Copy, PartialEq, Eq, Debug, Drop)]
 pub enum Instr {
+    /// Writes the operand plus `add` at `at`, modulo 256 to the operand's size.
+    Write {
+        from: Operand,
+        at: usize,
+        add: i64,
+        big: bool,
+    },
+    /// Takes the operand plus `add` modulo 2^64, shifts it by `shift` bits, to the left where `shift` is positive and to the right where it
+    /// is negative, and puts those of its bits where `mask` has ones into the number of `cast` bytes at `at`.
+    WriteMask {
+        from: Operand,
+        at: usize,
+        cast: u8,
+        mask: u64,
+        shift: i8,
+        add: i64,
+        big: bool,
+    },
     /// Writes the checksum of the IPv4 header at `at` (RFC 791, section 3.1).
     FixIpv4 {
         at: usize,
@@ -21,5 +61,9 @@ pub enum Instr {
         ip: usize,
         header: usize,
         kind: L4Kind,
+    },
+    /// Cuts the packet to the operand's number of bytes, before the latency header and all other instructions.
+    Trim {
+        from: Operand,
     },
 }

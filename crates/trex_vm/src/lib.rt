@@ -1,14 +1,20 @@
-// The field engine: programs that write checksums and latency headers into packets.
+// The field engine: programs that write variables, checksums and latency headers into packets.
 #![tactic(auto)]
 
-mod admission;
 mod fix;
 mod instr;
+mod laws;
 mod program;
+mod rules;
 mod run;
 #[cfg(test)]
 mod tests;
+mod write;
 
-pub use instr::{Instr, L4Kind};
+pub use instr::{Instr, L4Kind, Operand, Part};
+pub use laws::programs_fit;
 pub use program::Program;
+pub use rules::{
+    is_trim, least_length, misses_header, room_of, touches_shape, trim_wrong, writes_past,
+};
 pub use run::run_plain;

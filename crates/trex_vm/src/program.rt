@@ -1,17 +1,17 @@
 // Programs over a packet's bytes.
 
-ghost use Rattle.std.specs.Prelude.{◌≡◌, ◌≤◌, ◌↔◌, IsSome, IfSome, length};
-ghost use Rattle.trex_vm.specs.Program.{Accepts, IsProgram, plan_of};
+ghost use Rattle.std.specs.Prelude.{◌≡◌, ◌≤◌, is_some, IfSome, length, map};
+ghost use Rattle.trex_vars.specs.Variable.{variable_of};
+ghost use Rattle.trex_vm.specs.Rules.{accepts};
+ghost use Rattle.trex_vm.specs.Program.{AreOperandsOf, AreSound, IsProgram, plan_of};
 
-use crate::admission::is_admitted;
 use crate::instr::Instr;
+use crate::laws::programs_fit;
+use crate::rules::{accepts, least_length};
 use std::marker::Model;
+use trex_vars::VarSpec;
 
-const STAMP_LEN: usize = 16;
-
-const LEAST_STAMPED: usize = 30;
-
-/// The instructions of a stream, checked once against its template.
+/// The instructions of a stream, checked once against its variables and its template.
 #[derive(Drop)]
 pub struct Program {
     instrs: Vec<Instr>,
@@ -31,25 +31,31 @@ impl Model for Program {
 }
 
 impl Program {
-    /// The program of some instructions for a template, whose packets end in a latency header or don't.
+    /// The program of some instructions over a stream's variables for a template, whose packets end in a latency header or don't.
     ///
-    /// None exactly where a stamped template has fewer than 30 bytes; or a fix doesn't find its header within the template, less the
-    /// latency header (an IPv4 header of version 4 and at least 20 bytes; for a segment also the header's length as given, the protocol
-    /// 6 or 17, and the segment's own header); or a fix writes byte 0 or byte 9 of a header that a fix names.
-    pub fn new(instrs: Vec<Instr>, template: &[u8], stamped: bool) -> Option<Program>
+    /// None exactly where an instruction breaks a rule: a second trim; a trim whose least number is below 14 or whose greatest is above the
+    /// template's length; a least packet length below 30 of a stamped stream; a write that ends after the room, which is the least packet
+    /// length less the latency header; a fix that doesn't find its header within the room; or an instruction that writes byte 0 or byte 9
+    /// of a header that a fix names. Each operand's variable is one of `vars`; a write has 1, 2, 4 or 8 bytes; a shift goes by at most 63.
+    pub fn new(
+        instrs: Vec<Instr>,
+        vars: &[VarSpec],
+        template: &[u8],
+        stamped: bool,
+    ) -> Option<Program>
         requires long { 14 ≤ length template.now }
         requires short { length template.now ≤ 9216 }
-        ensures accepts { IsSome result ↔ Accepts (plan_of instrs.items template.now stamped) template.now }
-        ensures plan { IfSome result (λ p. p ≡ plan_of instrs.items template.now stamped) }
+        requires operands { AreOperandsOf (map variable_of vars.now) instrs.items }
+        requires sound { AreSound (map variable_of vars.now) }
+        ensures accepts { is_some result ≡ accepts (map variable_of vars.now) template.now stamped instrs.items }
+        ensures plan { IfSome result (λ p. p ≡ plan_of instrs.items (map variable_of vars.now) template.now stamped) }
     {
-        let least = template.len();
-        if stamped && least < LEAST_STAMPED {
+        if !accepts(vars, template, stamped, &instrs) {
             return None;
         }
-        let room = if stamped { least - STAMP_LEN } else { least };
-        if !is_admitted(&instrs, template, room) {
-            return None;
-        }
+        // the law bounds the least length by the template's
+        programs_fit();
+        let least = least_length(vars, &instrs, template.len());
         Some(Program {
             instrs,
             template: template.len(),

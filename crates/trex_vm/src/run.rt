@@ -1,61 +1,109 @@
 // Packets, made of a template.
 
-ghost use Rattle.std.specs.Prelude.{◌≡◌, ◌-◌, ◌≤◌, List, ◌∷◌, ◌++◌, IsSome, is_some, All, length, take, drop};
+ghost use Rattle.std.specs.Prelude.{◌≡◌, ◌+◌, ◌-◌, ◌≤◌, List, ◌∷◌, ◌++◌, Bool, false, IsSome, is_some, All, length, take, drop};
+ghost use Rattle.std.specs.List.{list_any};
 ghost use Rattle.trex_fields.specs.Bytes.{put};
 ghost use Rattle.trex_stamp.specs.Stamp.{stamp_bytes};
-ghost use Rattle.trex_vm.specs.Packet.{wrote, applied, front, packet};
+ghost use Rattle.trex_vm.specs.Packet.{wrote, applied, trimmed, stamped, front, packet};
 ghost use Rattle.trex_vm.specs.declared.instr.Instr.{Instr as AnInstr};
 ghost use Rattle.trex_vm.specs.Cover.{StaysFixed, HeaderVerifies};
-ghost use Rattle.trex_vm.specs.Program.{FindsHeader, KeepsShape, IsTemplateOf};
+ghost use Rattle.trex_vm.specs.Rules.{writes_past, misses_header, touches_shape};
+ghost use Rattle.trex_vm.specs.Program.{TakesFrom, IsFormed, IsTemplateOf, AreValuesOf};
 
 use crate::fix::{fix_ipv4, fix_l4};
 use crate::instr::Instr;
 use crate::program::Program;
+use crate::write::{number_in, shift_by, sum_in, write_masked, write_number};
 use trex_stamp::Stamp;
+use trex_vars::VarValue;
 
 const STAMP_LEN: usize = 16;
 
-/// Makes a packet at the front of `out`, and answers its length in bytes: the template, with the latency header in place of its last 16 bytes
-/// where there is one, after the program's instructions in order. What lies in `out` past the template's length stays.
+/// Makes a packet at the front of `out`, and answers its length in bytes: the template, cut to the trim's number, with the latency header in
+/// place of its last 16 bytes where there is one, after the program's other instructions in order. What lies in `out` past the template's
+/// length stays.
 ///
 /// A header that the program fixed verifies (RFC 1071), if no later instruction writes a byte that its checksum covers; for a UDP or TCP segment,
 /// if its length fits the packet.
-pub fn run_plain(program: &Program, template: &[u8], stamp: Option<Stamp>, out: &mut [u8]) -> usize
+pub fn run_plain(
+    program: &Program,
+    template: &[u8],
+    values: &[VarValue],
+    stamp: Option<Stamp>,
+    out: &mut [u8],
+) -> usize
     requires template { IsTemplateOf program.now template.now }
+    requires values { AreValuesOf program.now values.now }
     requires stamp { is_some stamp ≡ program.now.stamps }
     requires room { length template.now ≤ length out.old }
     ensures long { result ≤ length template.now }
-    ensures packet { take result out.new ≡ packet program.now.instrs stamp template.now }
+    ensures packet { take result out.new ≡ packet program.now.instrs values.now stamp template.now }
     ensures rest { drop (length template.now) out.new ≡ drop (length template.now) out.old }
     ensures verifies { (before : List AnInstr) (fix : AnInstr) (later : List AnInstr)
         → program.now.instrs ≡ before ++ fix ∷ later
         → StaysFixed fix later (take result out.new)
         → HeaderVerifies fix (take result out.new) }
 {
-    let len = template.len();
-    make_packet(program.instrs(), template, stamp, &mut out[..len]);
+    let instrs = program.instrs();
+    let len = packet_length(instrs, values, template.len());
+    make_packet(instrs, &template[..len], values, stamp, &mut out[..len]);
     len
 }
 
+// the packet's length
+fn packet_length(instrs: &[Instr], values: &[VarValue], whole: usize) -> usize
+    requires { All (TakesFrom (length values.now)) instrs.now }
+    ensures { result ≡ trimmed values.now instrs.now whole }
+{
+    for instr in instrs {
+        if let Instr::Trim { from } = *instr {
+            return number_in(values, from) as usize;
+        }
+    }
+    whole
+}
+
 // applies one instruction
-fn apply(instr: &Instr, bytes: &mut [u8])
-    requires { FindsHeader bytes.old (length bytes.old) instr.now }
-    ensures { bytes.new ≡ wrote instr.now bytes.old }
+fn apply(instr: &Instr, values: &[VarValue], bytes: &mut [u8])
+    requires operand { TakesFrom (length values.now) instr.now }
+    requires formed { IsFormed instr.now }
+    requires place { writes_past (length bytes.old) instr.now ≡ false }
+    requires header { misses_header bytes.old (length bytes.old) instr.now ≡ false }
+    ensures { bytes.new ≡ wrote values.now instr.now bytes.old }
 {
     match *instr {
+        Instr::Write { from, at, add, big } => {
+            write_number(bytes, big, from.size, at, sum_in(values, from, add));
+        }
+        Instr::WriteMask {
+            from,
+            at,
+            cast,
+            mask,
+            shift,
+            add,
+            big,
+        } => {
+            let number = shift_by(sum_in(values, from, add), shift);
+            write_masked(bytes, big, cast, at, mask, number);
+        }
         Instr::FixIpv4 { at } => fix_ipv4(bytes, at),
         Instr::FixL4 { ip, header, kind } => fix_l4(bytes, kind, ip, header),
+        Instr::Trim { .. } => {}
     }
 }
 
 // applies the instructions, one after another
-fn apply_all(instrs: &[Instr], bytes: &mut [u8])
-    requires headers { All (FindsHeader bytes.old (length bytes.old)) instrs.now }
-    requires shape { All (KeepsShape instrs.now) instrs.now }
-    ensures { bytes.new ≡ applied instrs.now bytes.old }
+fn apply_all(instrs: &[Instr], values: &[VarValue], bytes: &mut [u8])
+    requires operands { All (TakesFrom (length values.now)) instrs.now }
+    requires formed { All IsFormed instrs.now }
+    requires places { list_any (writes_past (length bytes.old)) instrs.now ≡ false }
+    requires headers { list_any (misses_header bytes.old (length bytes.old)) instrs.now ≡ false }
+    requires shape { list_any (touches_shape instrs.now) instrs.now ≡ false }
+    ensures { bytes.new ≡ applied values.now instrs.now bytes.old }
 {
     for instr in instrs {
-        apply(instr, bytes);
+        apply(instr, values, bytes);
     }
 }
 
@@ -72,7 +120,7 @@ fn stamp_end(bytes: &mut [u8], stamp: &Stamp)
 fn write_front(template: &[u8], stamp: Option<Stamp>, bytes: &mut [u8])
     requires long { length bytes.old ≡ length template.now }
     requires stamp { IsSome stamp → 16 ≤ length template.now }
-    ensures { bytes.new ≡ front stamp template.now }
+    ensures { bytes.new ≡ stamped stamp template.now }
 {
     bytes.copy_from_slice(template);
     if let Some(stamp) = stamp {
@@ -80,14 +128,23 @@ fn write_front(template: &[u8], stamp: Option<Stamp>, bytes: &mut [u8])
     }
 }
 
-// makes the packet
-fn make_packet(instrs: &[Instr], template: &[u8], stamp: Option<Stamp>, bytes: &mut [u8])
+// makes the packet of a template that is cut already
+fn make_packet(
+    instrs: &[Instr],
+    template: &[u8],
+    values: &[VarValue],
+    stamp: Option<Stamp>,
+    bytes: &mut [u8],
+)
     requires long { length bytes.old ≡ length template.now }
     requires stamp { IsSome stamp → 16 ≤ length template.now }
-    requires headers { All (FindsHeader (front stamp template.now) (length template.now)) instrs.now }
-    requires shape { All (KeepsShape instrs.now) instrs.now }
-    ensures { bytes.new ≡ packet instrs.now stamp template.now }
+    requires operands { All (TakesFrom (length values.now)) instrs.now }
+    requires formed { All IsFormed instrs.now }
+    requires places { list_any (writes_past (length template.now)) instrs.now ≡ false }
+    requires headers { list_any (misses_header (stamped stamp template.now) (length template.now)) instrs.now ≡ false }
+    requires shape { list_any (touches_shape instrs.now) instrs.now ≡ false }
+    ensures { bytes.new ≡ applied values.now instrs.now (stamped stamp template.now) }
 {
     write_front(template, stamp, bytes);
-    apply_all(instrs, bytes);
+    apply_all(instrs, values, bytes);
 }

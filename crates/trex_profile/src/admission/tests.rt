@@ -1,12 +1,15 @@
-ghost use Rattle.std.specs.Prelude.{◌<◌, ◌≤◌, ◌^◌, IfOk};
+ghost use Rattle.std.specs.Prelude.{◌<◌, ◌≤◌, ◌^◌, All, IfOk, length, map};
 ghost use Rattle.trex_profile.specs.Admission.{IsRawProfile};
+ghost use Rattle.trex_profile.specs.Instruction.{instruction, IsRawInstr};
 ghost use Rattle.trex_profile.specs.Stream.{IsRawStream, HasGap};
 
 use super::*;
-use crate::raw::{RateKind, RawRate};
+use crate::name::Name;
+use crate::raw::{RateKind, RawInstr, RawPlace, RawRate};
 use crate::rule::Rule;
 use std::test::Fail;
 use trex_sched::{Mode, Period};
+use trex_vars::{Op, VarSpec};
 
 fn stream(
     alloc: Global,
@@ -31,7 +34,33 @@ fn stream(
         template: vec![in alloc; 0; length]?,
         rate,
         mode,
+        flow: None,
+        instrs: Vec::new(alloc),
     })
+}
+
+/// A counter of one byte, and its write into the last byte of 14.
+fn counter_instrs(alloc: Global) -> Result<Vec<RawInstr>, Memory>
+    ensures count { IfOk result (λ instrs. length instrs.items ≤ 256) }
+    ensures ranges { IfOk result (λ instrs. All IsRawInstr (map instruction instrs.items)) }
+{
+    let mut instrs = Vec::new(alloc);
+    instrs.push(RawInstr::FlowVar {
+        name: Name::of(alloc, "v")?,
+        size: 1,
+        op: Op::Inc,
+        init: 250,
+        min: 250,
+        max: 255,
+        step: 4,
+    })?;
+    instrs.push(RawInstr::Write {
+        name: Name::of(alloc, "v")?,
+        place: RawPlace::At(13),
+        add: 0,
+        big: true,
+    })?;
+    Ok(instrs)
 }
 
 fn profile_of_one(stream: RawStream, alloc: Global) -> Result<RawProfile, Memory>
@@ -106,5 +135,47 @@ fn a_stream_that_starts_by_itself_has_a_chain_with_its_period(rt: HostRuntime) -
         assert_eq!(rt; legs.len(), 1);
         assert_eq!(rt; Some(legs[0].period), Period::new(value * 1_000, value));
     }
+    Ok(())
+}
+
+#[test]
+fn a_name_is_its_text(rt: HostRuntime) -> Result<(), Fail> {
+    let Ok(name) = Name::of(rt.alloc(), "t.port") else {
+        return Err(Fail::from("memory"));
+    };
+    assert_eq!(rt; name.text(), "t.port");
+    Ok(())
+}
+
+#[test]
+fn a_variable_has_the_place_of_its_instruction(rt: HostRuntime) -> Result<(), Fail> {
+    let alloc = rt.alloc();
+    let rate = RawRate {
+        kind: RateKind::Pps,
+        value: 1_000_000,
+    };
+    let Ok(mut raw) = stream(alloc, 7, 14, rate, Mode::Continuous) else {
+        return Err(Fail::from("memory"));
+    };
+    let Ok(instrs) = counter_instrs(alloc) else {
+        return Err(Fail::from("memory"));
+    };
+    raw.instrs = instrs;
+    raw.seed = 5;
+    let Ok(profile) = profile_of_one(raw, alloc) else {
+        return Err(Fail::from("memory"));
+    };
+    let Ok(profile) = admit(alloc, profile) else {
+        return Err(Fail::from("refused"));
+    };
+    assert_eq!(rt; profile.len(), 1);
+    let spec = profile.stream(0);
+    assert_eq!(rt; spec.flow, None);
+    assert_eq!(rt; spec.vars.len(), 1);
+    let VarSpec::Counter { seed, position, .. } = &spec.vars[0] else {
+        return Err(Fail::from("no counter"));
+    };
+    assert_eq!(rt; *seed, 5);
+    assert_eq!(rt; *position, 0);
     Ok(())
 }

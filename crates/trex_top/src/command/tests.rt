@@ -2,6 +2,8 @@ use crate::{Status, trex_main};
 use std::alloc::Global;
 use std::process::Abort;
 use std::test::Fail;
+use std::thread::Threads;
+use trex_crew::Open;
 use trex_io::{MemSink, MemSource};
 use trex_pcap::{header, record_header};
 
@@ -11,6 +13,9 @@ const CAPTURE: &[u8; 114] = b"\x4d\x3c\xb2\xa1\x02\0\x04\0\0\0\0\0\0\0\0\0\0\0\x
 \0\0\0\0\xaa\x86\xbc\x27\x0e\0\0\0\x0e\0\0\0\x02\0\0\0\0\x02\x02\0\0\0\0\x01\x88\xb5";
 
 const REPORT: &[u8; 53] = b"stream 1 packets 3 bytes 42\ntotal packets 3 bytes 42\n";
+
+/// How many bytes a capture may have here.
+const ROOM: usize = 2_400_000;
 
 /// What a run left.
 #[derive(Drop)]
@@ -71,16 +76,25 @@ fn capture(alloc: Global, sent: &[(u32, u8)]) -> Result<Vec<u8>, Fail> {
 }
 
 /// Runs over memory, at most ten bytes a call.
-fn run(alloc: Global, line: &str, text: &str, failing: Failing) -> Result<Ran, Fail> {
+fn run<R: Threads + Sync>(
+    rt: &R,
+    alloc: Global,
+    line: &str,
+    text: &str,
+    failing: Failing,
+) -> Result<Ran, Fail> {
     let mut words = Vec::new(alloc);
     for word in line.split_ascii_whitespace() {
         words.push(String::from_str(alloc, word)?)?;
     }
     let text = Vec::from_slice(alloc, text.as_bytes())?;
     let mut input = MemSource::new(text, 10, Vec::from_slice(alloc, &[failing.input])?);
-    let mut out = MemSink::new(alloc, 1_000, 10, Vec::from_slice(alloc, &[failing.out])?)?;
+    let mut out = MemSink::new(alloc, ROOM, 10, Vec::from_slice(alloc, &[failing.out])?)?;
     let mut notes = MemSink::new(alloc, 1_000, 10, Vec::from_slice(alloc, &[failing.notes])?)?;
-    let status = trex_main(alloc, &words, &mut input, &mut out, &mut notes);
+    let mut gates = [Open; 2];
+    let status = trex_main(
+        rt, alloc, &words, &mut input, &mut out, &mut notes, &mut gates,
+    );
     Ok(Ran { status, out, notes })
 }
 
@@ -97,10 +111,12 @@ fn thirds_of_a_second(rt: HostRuntime) -> Result<(), Fail> {
     let thirds = burst(alloc, 3, "pps", "3")?;
     for line in [
         "run",
+        "run --cores 2",
+        "run --cores 3",
         "run --cores 64 --duration 666666667",
         "run --limit 3",
     ] {
-        let ran = run(alloc, line, thirds.as_str(), NONE)?;
+        let ran = run(&rt, alloc, line, thirds.as_str(), NONE)?;
         assert_left(
             &rt,
             &ran,
@@ -114,7 +130,7 @@ fn thirds_of_a_second(rt: HostRuntime) -> Result<(), Fail> {
 
 #[test]
 fn an_empty_profile_has_an_empty_capture(rt: HostRuntime) -> Result<(), Fail> {
-    let ran = run(rt.alloc(), "run", "[]", NONE)?;
+    let ran = run(&rt, rt.alloc(), "run", "[]", NONE)?;
     assert_left(
         &rt,
         &ran,
@@ -150,7 +166,7 @@ fn the_first_broken_rule_is_told(rt: HostRuntime) -> Result<(), Fail> {
     ];
     for (text, line) in lines {
         for command in ["run", "check"] {
-            let ran = run(alloc, command, text, NONE)?;
+            let ran = run(&rt, alloc, command, text, NONE)?;
             assert_left(&rt, &ran, Status::Refused, b"", line.as_bytes());
         }
     }
@@ -160,7 +176,7 @@ fn the_first_broken_rule_is_told(rt: HostRuntime) -> Result<(), Fail> {
 #[test]
 fn a_packet_each_nanosecond_is_accepted(rt: HostRuntime) -> Result<(), Fail> {
     let fastest = burst(rt.alloc(), 1, "pps", "1000000000")?;
-    let ran = run(rt.alloc(), "check", fastest.as_str(), NONE)?;
+    let ran = run(&rt, rt.alloc(), "check", fastest.as_str(), NONE)?;
     assert_left(&rt, &ran, Status::Done, b"accepted streams 1\n", b"");
     Ok(())
 }
@@ -170,6 +186,7 @@ fn a_bit_rate_counts_what_a_frame_takes(rt: HostRuntime) -> Result<(), Fail> {
     let alloc = rt.alloc();
     for (kind, value) in [("bps_L2", "144000000"), ("bps_L1", "\"304e6\"")] {
         let ran = run(
+            &rt,
             alloc,
             "run --base 1",
             burst(alloc, 2, kind, value)?.as_str(),
@@ -198,7 +215,7 @@ fn words_without_a_meaning_are_told(rt: HostRuntime) -> Result<(), Fail> {
         ("check x", "usage: UnknownOption at 1\n"),
     ];
     for (words, line) in lines {
-        let ran = run(rt.alloc(), words, "[]", NONE)?;
+        let ran = run(&rt, rt.alloc(), words, "[]", NONE)?;
         assert_left(&rt, &ran, Status::Usage, b"", line.as_bytes());
     }
     Ok(())
@@ -208,9 +225,21 @@ fn words_without_a_meaning_are_told(rt: HostRuntime) -> Result<(), Fail> {
 fn a_stream_that_fails_is_told(rt: HostRuntime) -> Result<(), Fail> {
     let alloc = rt.alloc();
     let thirds = burst(alloc, 3, "pps", "3")?;
-    let unread = run(alloc, "run", thirds.as_str(), Failing { input: 1, ..NONE })?;
+    let unread = run(
+        &rt,
+        alloc,
+        "run",
+        thirds.as_str(),
+        Failing { input: 1, ..NONE },
+    )?;
     assert_left(&rt, &unread, Status::ReadFault, b"", b"read fault\n");
-    let unwritten = run(alloc, "run", thirds.as_str(), Failing { out: 2, ..NONE })?;
+    let unwritten = run(
+        &rt,
+        alloc,
+        "run",
+        thirds.as_str(),
+        Failing { out: 2, ..NONE },
+    )?;
     assert_left(
         &rt,
         &unwritten,
@@ -218,7 +247,13 @@ fn a_stream_that_fails_is_told(rt: HostRuntime) -> Result<(), Fail> {
         &CAPTURE[..10],
         b"write fault\n",
     );
-    let unreported = run(alloc, "run", thirds.as_str(), Failing { notes: 1, ..NONE })?;
+    let unreported = run(
+        &rt,
+        alloc,
+        "run",
+        thirds.as_str(),
+        Failing { notes: 1, ..NONE },
+    )?;
     assert_left(
         &rt,
         &unreported,
@@ -226,14 +261,20 @@ fn a_stream_that_fails_is_told(rt: HostRuntime) -> Result<(), Fail> {
         CAPTURE.as_slice(),
         b"",
     );
-    let untold = run(alloc, "check", thirds.as_str(), Failing { out: 1, ..NONE })?;
+    let untold = run(
+        &rt,
+        alloc,
+        "check",
+        thirds.as_str(),
+        Failing { out: 1, ..NONE },
+    )?;
     assert_left(&rt, &untold, Status::OutFault, b"", b"write fault\n");
     Ok(())
 }
 
 /// Looks at what a profile of such entries sends.
-fn assert_sent(
-    rt: &impl Abort,
+fn assert_sent<R: Abort + Threads + Sync>(
+    rt: &R,
     alloc: Global,
     line: &str,
     entries: &[String],
@@ -247,9 +288,13 @@ fn assert_sent(
         text.push_str(entry.as_str())?;
     }
     text.push_str("]")?;
-    let ran = run(alloc, line, text.as_str(), NONE)?;
-    assert_eq!(rt; ran.status, Status::Done);
-    assert_eq!(rt; ran.out.bytes(), capture(alloc, sent)?.as_slice());
+    let expected = capture(alloc, sent)?;
+    for cores in ["1", "2", "7", "64"] {
+        let line = format!(in alloc; "{line} --cores {cores}")?;
+        let ran = run(rt, alloc, line.as_str(), text.as_str(), NONE)?;
+        assert_eq!(rt; ran.status, Status::Done);
+        assert_eq!(rt; ran.out.bytes(), expected.as_slice());
+    }
     Ok(())
 }
 
@@ -346,9 +391,9 @@ fn names_that_the_tables_do_not_give_are_passed_over(rt: HostRuntime) -> Result<
     let text = format!(in alloc;
         r#"[{{"handler":"x","api_h":"y","port_id":0,"stream_id":1,"stream":{{{STREAM_NAMES}{MORE_NAMES}{packet}{mode}}}}}]"#
     )?;
-    let checked = run(alloc, "check", text.as_str(), NONE)?;
+    let checked = run(&rt, alloc, "check", text.as_str(), NONE)?;
     assert_left(&rt, &checked, Status::Done, b"accepted streams 1\n", b"");
-    let ran = run(alloc, "run --limit 2", text.as_str(), NONE)?;
+    let ran = run(&rt, alloc, "run --limit 2", text.as_str(), NONE)?;
     assert_eq!(rt;
         ran.out.bytes(),
         capture(alloc, &[(0, 0xb5), (1_000, 0xb5)])?.as_slice()
@@ -388,3 +433,5 @@ fn cycles_of_three_and_bursts_without_end(rt: HostRuntime) -> Result<(), Fail> {
     )?;
     assert_sent(&rt, alloc, "run --limit 1", &endless, &[(0, 1)])
 }
+
+mod packets;

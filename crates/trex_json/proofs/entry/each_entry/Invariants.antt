@@ -1,4 +1,4 @@
-use Rattle.std.proofs.Common.{◌≡◌, ◌≤◌, All, length, map, drop, take}
+use Rattle.std.proofs.Common.{◌≡◌, All, length, map, drop, take}
 use Rattle.serde_json.specs.View.{view}
 use Rattle.trex_profile.specs.Order.{first_each}
 use Rattle.trex_profile.specs.Stream.{raw_stream, IsRawStream}

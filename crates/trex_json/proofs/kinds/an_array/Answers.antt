@@ -1,4 +1,4 @@
-use Rattle.std.proofs.Common.{◌≡◌, Some, map, sym, ap}
+use Rattle.std.proofs.Common.{Some, map, sym, ap}
 use Rattle.serde_json.specs.View.{view}
 use Rattle.trex_json.proofs.JsonLemmas.{list_of-items_of}
 use Rattle.trex_json.proofs.kinds.an_array.Goals as goal

@@ -11,6 +11,6 @@ returns c =
     let at = c.args.at in
     let whole = c.args.packet.now in
     let same : header_length c.write_be.new.bytes at ≡ header_length whole at = rw c.write_be.ensures (header_length-put at (at + 10) (0 ∷ 0 ∷ []) whole (omega arith) (omega arith)) in
-    let end = ap (λ (n : ℕ). sum_of (slice_range c.write_be.new.bytes at (at + n))) (c.length_of_header.ensures ∙ sym same) in
+    let end = ap (λ (n : ℕ). sum_of (slice_range c.write_be.new.bytes at (at + n))) (c.words_to_bytes.ensures ∙ sym same) in
     let completes = c.from.ensures ∙ ap (λ (n : ℕ). 65535 - n) c.fold.ensures in
     summed_by_steps (λ n. n) (header_at at) (at + 10) whole c.write_be.new.bytes c.write_be-2.new.bytes c.sum_words-sum.result c.from.result c.write_be.ensures (c.sum_words-sum.ensures.value ∙ end) completes c.write_be-2.ensures

@@ -1,0 +1,11 @@
+pub mod Totals
+pub mod Seats
+pub mod Shelves
+pub mod Draws
+pub mod Rounds
+pub mod Puts
+pub mod Rests
+pub mod Slots
+pub mod Calls
+pub mod Apart
+pub mod CallerLemmas

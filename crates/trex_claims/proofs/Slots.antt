@@ -1,0 +1,129 @@
+-- The two steps that take the slot of a core and give it back, by the first seat, keep the rule.
+use Rattle.std.proofs.Common.{◌≡◌, ◌⊎◌, ⊎_elim, ℕ, zero, suc, ◌+◌, ◌<◌, List, [], ◌∷◌, length, get_or, set, refl, sym, ap, subst, ◌∙◌, arith, Bool, true, false, Option, None, Some}
+use mathlib.Core.Option as maybe
+use mathlib.Core.Option.{none, some}
+use lib.ListN.{get_elem?}
+use Rattle.atomic_table.specs.Table.{State, Me, takes, gives, put_back, Allows}
+use Rattle.trex_claims.specs.declared.view.What.{What}
+use Rattle.trex_claims.specs.declared.view.What.TheVariants.{Empty, Out, Full}
+use Rattle.trex_claims.specs.declared.view.Stand.{Stand}
+use Rattle.trex_claims.specs.declared.view.Round.{Round}
+use Rattle.trex_claims.specs.declared.view.View.{View}
+use Rattle.trex_claims.specs.Views.{times, IsFirst, IsEmpty, IsFull}
+use Rattle.trex_claims.specs.Board.{below, Shelved, Kept, Rule}
+use Rattle.trex_claims.specs.Moves.{vacant, stand_at, turned_by, stands_after, rested_if, rested, restood, out, FitsAs, Reached, stand_of, Homed}
+use Rattle.trex_claims.proofs.Totals.{at_place, set_loaded, set_twice}
+use Rattle.trex_claims.proofs.Shelves.{resting_of, untouched, of_first}
+use Rattle.trex_claims.proofs.Rests.{rests_if, each_put, stood_led, stood_kept}
+
+module _ {T : Type 0} (core turns : T → ℕ) (stem : T → List (List ℕ)) (settled : T → Type 0) where
+  -- what is in a slot at home
+  slot_at : (what : What) (r : Round) (c : ℕ) (t : Stand) (word : ℕ) (home : maybe.Option (maybe.Option (Option T))) → t.what ≡ what → IsFull what ⊎ IsEmpty what
+      → Shelved core turns stem settled r c t 0 0 word home → (slot : Option T) × (home ≡ some (some slot)) × FitsAs core turns stem settled what c t slot
+  slot_at Empty r c t word home is at old = (None, old.empty (subst IsEmpty (sym is) tt), refl)
+  slot_at Out r c t word home is at old = absurd (⊎_elim (λ z. z) (λ z. z) at)
+  slot_at Full r c t word home is at old =
+      let found = old.there (subst IsFull (sym is) tt) refl in
+      (Some found.0, found.1, (found.0, refl, found.2))
+
+  taken_shelf : (r : Round) (c : ℕ) (t : Stand) (word : ℕ) (home : maybe.Option (maybe.Option (Option T)))
+      → Shelved core turns stem settled r c t 0 0 word home → Shelved core turns stem settled r c (out t) 0 0 word (some none)
+  taken_shelf r c t word home old = record { counted = old.counted; bounded = old.bounded; there = λ f _. absurd f; away = λ _. refl; empty = λ z. absurd z }
+
+  given_shelf : (r : Round) (c : ℕ) (t : Stand) (word : ℕ) (home : maybe.Option (maybe.Option (Option T))) (slot : Option T) → ((piece : T) → slot ≡ Some piece → core piece ≡ c)
+      → Shelved core turns stem settled r c t 0 0 word home → Shelved core turns stem settled r c (stand_of core turns stem settled t ((c, slot) ∷ [])) 0 0 word (some (some slot))
+  given_shelf r c t word home None its_core old = record { counted = old.counted; bounded = old.bounded; there = λ f _. absurd f; away = λ z. absurd (omega arith); empty = λ _. refl }
+  given_shelf r c t word home (Some piece) its_core old = record {
+    counted = old.counted;
+    bounded = old.bounded;
+    there = λ _ _. (piece, refl, record { core_is = its_core piece refl; turns_are = omega arith; stem_is = refl; settles = λ z. absurd (omega arith) });
+    away = λ z. absurd (omega arith);
+    empty = λ z. absurd z;
+  }
+
+  -- a core while no round is open
+  calm : (r : Round) (c : ℕ) (s : State (Option T) View) (told : Bool) (outs : ℕ) → r.running ≡ false → c < length r.stands → Kept core turns stem settled r told outs s
+      → Shelved core turns stem settled r c (get_or r.stands c vacant) 0 0 (get_or s.words (c + 1) 0) (get_elem? s.homes c)
+  calm r c s told outs off c_below k =
+      let d = resting_of r told outs (get_or s.words 0 0) s.views off k.draws in
+      let z = d.none c in
+      untouched core turns stem settled r c (get_or r.stands c vacant) _ _ _ _ 0 0 (get_or s.words (c + 1) 0) (get_elem? s.homes c) (omega arith) (omega arith) refl refl
+      (k.shelved c (get_or r.stands c vacant) (at_place r.stands c vacant c_below))
+
+  pub reaches : (slots id : ℕ) (me : Me (Option T) View) (c : ℕ) → IsFirst me.0.role → me.0.claim ≡ [] → (me.0.round.running ≡ false) ⊎ (me.0.outs ≡ 0) → c < slots
+      → IsFull (stand_at (rested me.0) c).what ⊎ IsEmpty (stand_at (rested me.0) c).what
+      → Allows (Rule core turns stem settled) slots id me (c + 1) (λ n. n) (λ found. Reached core turns stem settled slots c me)
+  reaches slots id me c is_first free shut c_below at_home s rule wide at _ =
+      let v = me.0 in
+      let first = of_first core turns stem settled s id v rule at is_first in
+      let alone : v.outs ≡ 0 = ⊎_elim (λ off. (resting_of v.round v.told v.outs (get_or s.words 0 0) s.views off first.2.draws).alone) (λ z. z) shut in
+      let cores : length v.round.stands ≡ slots = sym first.2.homes ∙ wide in
+      let ended = rests_if core turns stem settled v.round.running s v refl first.1 first.2 free alone in
+      let u = rested v in
+      let mid : State (Option T) View = record { words = s.words; homes = s.homes; views = set s.views 0 u } in
+      let stands = ended.4 in
+      let inside : c < length u.round.stands = omega arith in
+      let t = stand_at u c in
+      let here = calm u.round c mid u.told u.outs ended.2 inside ended.1 in
+      let slot = slot_at t.what u.round c t (get_or s.words (c + 1) 0) (get_elem? s.homes c) refl at_home here in
+      let shelf = taken_shelf u.round c t (get_or s.words (c + 1) 0) (get_elem? s.homes c) here in
+      let w = restood u c (out t) in
+      let led = stood_led core turns stem settled mid u ended.0 ended.1 ended.2 ended.3 c (out t) none inside shelf in
+      let kept = stood_kept core turns stem settled mid u ended.0 ended.1 ended.2 ended.3 c (out t) none inside shelf in
+      let views : set s.views id w ≡ set (set s.views 0 u) 0 w = ap (λ i. set s.views i w) first.0 ∙ sym (set_twice s.views 0 u w) in (
+        w,
+        takes c slot.0,
+        slot.1,
+        subst (λ (q : List ℕ × List View). Rule core turns stem settled (record { words = q.0; homes = set s.homes c none; views = q.1 }))
+            (λ i. (sym (set_loaded s.words (c + 1) 0) i, sym views i)) (w, led, kept),
+        record {
+          cores = cores;
+          each_once = λ running told x. each_put core turns stem settled s v first.1 first.2 running free alone told x ∙ ap (below x) cores;
+          slot = slot.0;
+          fits = slot.2;
+          seat = refl;
+        },
+      )
+
+  pub homes : (slots id : ℕ) (me : Me (Option T) View) (c : ℕ) (slot : Option T) → IsFirst me.0.role → me.0.round.running ≡ false → c < slots
+      → me.1 ≡ (c, slot) ∷ [] → ((piece : T) → slot ≡ Some piece → core piece ≡ c)
+      → Allows (Rule core turns stem settled) slots id me (c + 1) (λ n. n) (λ found. Homed core turns stem settled c me)
+  homes slots id me c slot is_first off c_below has its_core s rule wide at _ =
+      let v = me.0 in
+      let first = of_first core turns stem settled s id v rule at is_first in
+      let alone = (resting_of v.round v.told v.outs (get_or s.words 0 0) s.views off first.2.draws).alone in
+      let cores : length v.round.stands ≡ slots = sym first.2.homes ∙ wide in
+      let below : c < length v.round.stands = omega arith in
+      let t = stand_at v c in
+      let here = calm v.round c s v.told v.outs off below first.2 in
+      let new = stand_of core turns stem settled t me.1 in
+      let is : new ≡ stand_of core turns stem settled t ((c, slot) ∷ []) = ap (stand_of core turns stem settled t) has in
+      let given = given_shelf v.round c t (get_or s.words (c + 1) 0) (get_elem? s.homes c) slot its_core here in
+      let shelf : Shelved core turns stem settled v.round c new 0 0 (get_or s.words (c + 1) 0) (some (some slot)) =
+      subst (λ z. Shelved core turns stem settled v.round c z 0 0 (get_or s.words (c + 1) 0) (some (some slot))) (sym is) given in
+      let w = restood v c new in
+      let led = stood_led core turns stem settled s v first.1 first.2 off alone c new (some slot) below shelf in
+      let kept = stood_kept core turns stem settled s v first.1 first.2 off alone c new (some slot) below shelf in
+      let views : set s.views id w ≡ set s.views 0 w = ap (λ i. set s.views i w) first.0 in
+      let back : put_back s.homes me.1 ≡ set s.homes c (some slot) = ap (put_back s.homes) has in (
+        w,
+        gives,
+        tt,
+        subst (λ (q : List ℕ × List (maybe.Option (Option T)) × List View). Rule core turns stem settled (record { words = q.0; homes = q.1; views = q.2 }))
+            (λ i. (sym (set_loaded s.words (c + 1) 0) i, sym back i, sym views i)) (w, led, kept),
+        refl,
+      )
+
+what_turned : (n : ℕ) (t : Stand) → (turned_by n t).what ≡ t.what
+what_turned zero t = refl
+what_turned (suc n) t = refl
+
+-- the end of a round keeps what is in a slot
+what_after : (puts : List ℕ) (c i : ℕ) (ts : List Stand) → (get_or (stands_after puts c ts) i vacant).what ≡ (get_or ts i vacant).what
+what_after puts c i [] = refl
+what_after puts c zero (t ∷ ts) = what_turned (times c puts) t
+what_after puts c (suc i) (t ∷ ts) = what_after puts (c + 1) i ts
+
+pub rested_what : (b : Bool) (v : View) (c : ℕ) → (stand_at (rested_if b v) c).what ≡ (stand_at v c).what
+rested_what true v c = what_after v.done 0 c v.round.stands
+rested_what false v c = refl

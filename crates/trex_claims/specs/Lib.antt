@@ -1,0 +1,4 @@
+pub mod Views
+pub mod Board
+pub mod Moves
+pub mod Boards

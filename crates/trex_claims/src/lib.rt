@@ -1,0 +1,17 @@
+// Pieces of work, and the board on which threads claim them.
+#![tactic(auto)]
+
+mod board;
+mod claim;
+mod laws;
+mod piece;
+mod rule;
+#[cfg(test)]
+mod tests;
+mod view;
+
+pub use board::{Board, Seat};
+pub use claim::Claim;
+pub use laws::rules_keep_pieces;
+pub use piece::Piece;
+pub use view::{Role, Round, Stand, View, What};

@@ -1,0 +1,5 @@
+pub mod Records
+pub mod Slots
+pub mod Filling
+pub mod Registering
+pub mod Making

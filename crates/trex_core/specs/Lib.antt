@@ -1,0 +1,7 @@
+pub mod Plan
+pub mod Batches
+pub mod Records
+pub mod Works
+pub mod Registers
+pub mod Beginnings
+pub mod Turning

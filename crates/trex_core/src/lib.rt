@@ -1,0 +1,18 @@
+// A core's share of a run: the packets that it makes, in batches.
+#![tactic(auto)]
+
+mod batch;
+mod laws;
+mod maker;
+mod plan;
+mod record;
+mod registers;
+#[cfg(test)]
+mod tests;
+mod work;
+
+pub use batch::{BATCH_BYTES, BATCH_PACKETS};
+pub use laws::{batches_are_longest, plans_rise, turns_keep_packets};
+pub use maker::LONGEST_PACKET;
+pub use plan::Plan;
+pub use work::CoreWork;

@@ -1,0 +1,132 @@
+// The making of a core's packets.
+
+ghost use Rattle.std.specs.Prelude.{◌≡◌, ◌%◌, ◌<◌, ◌≤◌, ◌^◌, IfOk, IsSomeAnd, length, map, slice_get, take};
+ghost use Rattle.std.specs.Option.{option_map};
+ghost use Rattle.trex_core.specs.Plan.{IsSlotOf, packet_bytes};
+ghost use Rattle.trex_core.specs.Registers.{values_at};
+ghost use Rattle.trex_profile.specs.Packets.{variables};
+
+use crate::plan::Plan;
+use crate::registers::Registers;
+use std::alloc::Global;
+use std::marker::Model;
+use trex_io::Memory;
+use trex_sched::Slot;
+use trex_stamp::Stamp;
+use trex_vars::VarValue;
+use trex_vm::run_plain;
+
+/// The most bytes that a packet has.
+pub const LONGEST_PACKET: usize = 9_216;
+
+/// What a core makes its packets with. Contracts see it as the plan.
+#[derive(Drop)]
+pub(crate) struct Maker<'p> {
+    plan: &'p Plan<'p>,
+    // those of each stream, by its position
+    registers: Vec<Registers<'p>>,
+}
+
+impl<'p> Model for Maker<'p> {
+    ghost use Rattle.std.specs.Prelude.{◌≡◌, map};
+    ghost use Rattle.trex_core.specs.Plan.{PlanOf};
+    ghost use Rattle.trex_profile.specs.Packets.{variables};
+
+    ghost Value = { PlanOf };
+
+    ghost view = { λ m. m.plan.now };
+
+    ghost invariant = { λ m. map (λ r. r.variables) m.registers.items ≡ map variables m.plan.now.profile };
+}
+
+impl<'p> Maker<'p> {
+    /// What makes the packets of core `core` of `cores` of a plan. All its memory is taken here.
+    pub(crate) fn new(
+        alloc: Global,
+        plan: &'p Plan<'p>,
+        core: u32,
+        cores: u32,
+    ) -> Result<Maker<'p>, Memory>
+        requires core { core < cores }
+        requires cores { cores ≤ 64 }
+        ensures { IfOk result (λ maker. maker ≡ plan.now) }
+    {
+        let registers = registers_of(alloc, plan, core, cores)?;
+        Ok(Maker { plan, registers })
+    }
+
+    /// Makes a packet at the front of the scratch, and answers its length in bytes.
+    pub(crate) fn make(&mut self, slot: &Slot, scratch: &mut [u8]) -> usize
+        requires slot { IsSlotOf self.old.profile slot.now }
+        requires room { length scratch.old ≡ LONGEST_PACKET }
+        ensures packet { take result scratch.new ≡ packet_bytes self.old.profile self.old.base slot.now }
+        ensures short { result ≤ LONGEST_PACKET }
+        ensures plan { self.new ≡ self.old }
+    {
+        make_packet(self.plan, &mut self.registers, slot, scratch)
+    }
+}
+
+// the registers of each stream, by its position
+fn registers_of<'p>(
+    alloc: Global,
+    plan: &'p Plan<'p>,
+    core: u32,
+    cores: u32,
+) -> Result<Vec<Registers<'p>>, Memory>
+    requires core { core < cores }
+    requires cores { cores ≤ 64 }
+    ensures { IfOk result (λ all. map (λ r. r.variables) all.items ≡ map variables plan.now.profile) }
+{
+    let mut all = Vec::with_capacity(alloc, plan.streams())?;
+    for i in 0..plan.streams() {
+        let registers = Registers::start(alloc, &plan.stream(i).vars, core, cores)?;
+        all.push(registers)?;
+    }
+    Ok(all)
+}
+
+// makes a packet with the registers of its stream
+fn make_packet(
+    plan: &Plan<'_>,
+    registers: &mut [Registers<'_>],
+    slot: &Slot,
+    scratch: &mut [u8],
+) -> usize
+    requires slot { IsSlotOf plan.now.profile slot.now }
+    requires registers { map (λ r. r.variables) registers.old ≡ map variables plan.now.profile }
+    requires room { length scratch.old ≡ LONGEST_PACKET }
+    ensures packet { take result scratch.new ≡ packet_bytes plan.now.profile plan.now.base slot.now }
+    ensures short { result ≤ LONGEST_PACKET }
+    ensures registers { map (λ r. r.variables) registers.new ≡ map (λ r. r.variables) registers.old }
+{
+    let position = slot.stream as usize;
+    registers[position].go_to(slot.number);
+    write_packet(plan, slot, registers[position].values(), scratch)
+}
+
+// makes a packet of the values of its stream's variables
+fn write_packet(plan: &Plan<'_>, slot: &Slot, values: &[VarValue], scratch: &mut [u8]) -> usize
+    requires slot { IsSlotOf plan.now.profile slot.now }
+    requires values { IsSomeAnd (slice_get plan.now.profile slot.now.stream)
+        (λ stream. values.now ≡ values_at (variables stream) slot.now.number) }
+    requires room { length scratch.old ≡ LONGEST_PACKET }
+    ensures packet { take result scratch.new ≡ packet_bytes plan.now.profile plan.now.base slot.now }
+    ensures short { result ≤ LONGEST_PACKET }
+{
+    let spec = plan.stream(slot.stream as usize);
+    let stamp = stamp_of(spec.flow, slot.number, plan.time_of(slot));
+    run_plain(&spec.program, &spec.template, values, stamp, scratch)
+}
+
+// the latency header of a packet, where its stream has a flow
+fn stamp_of(flow: Option<u16>, number: u64, time: u64) -> Option<Stamp>
+    ensures { result ≡ option_map (λ flow. record { flow = flow; sequence = number % 2 ^ 32; time = time }) flow }
+{
+    let flow = flow?;
+    Some(Stamp {
+        flow,
+        sequence: (number % (1 << 32)) as u32,
+        time,
+    })
+}

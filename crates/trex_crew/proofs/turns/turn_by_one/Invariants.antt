@@ -1,0 +1,9 @@
+use Rattle.std.proofs.Common.{◌≡◌, ◌++◌, ◌∷◌, [], map, take, drop}
+use Rattle.trex_crew.specs.Gates.{Entered}
+use Rattle.trex_crew.proofs.turns.turn_by_one.Given as goal
+
+abbrev pub invariant-loop-work : goal.invariant-loop-work
+invariant-loop-work g l = record {
+  works : l.works ≡ map g.T.Piece.turned (take l.work-index l.initial.works) ++ drop l.work-index l.initial.works;
+  gate : Entered g.G.Gate.entries g.T.Piece.core_of (take l.work-index l.initial.works) l.round (l.initial.gate ∷ []) (l.gate ∷ []);
+}

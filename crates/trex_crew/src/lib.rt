@@ -1,0 +1,14 @@
+// Workers that give each core's work its turn, and the gates that they enter before it.
+#![tactic(auto)]
+
+mod crew;
+mod gate;
+mod list_gate;
+mod turns;
+
+pub use crew::Crew;
+pub use gate::{Gate, Open};
+pub use list_gate::ListGate;
+
+#[cfg(test)]
+mod tests;

@@ -1,0 +1,287 @@
+// The instructions of a stream.
+
+ghost use Rattle.std.specs.Prelude.{◌≡◌, ◌≤◌, ◌-◌, ◌^◌, List, length, map, All, Option, None, Some, IfOk, IfSome, option_map, option_and_then, codes, if◌then◌else◌};
+ghost use Rattle.std.specs.List.{list_any};
+ghost use Rattle.serde_json.specs.Find.{as_str};
+ghost use Rattle.serde_json.specs.View.{view};
+ghost use Rattle.trex_fields.specs.Bytes.{IsSize};
+ghost use Rattle.trex_profile.specs.Answer.{Gives};
+ghost use Rattle.trex_profile.specs.Instruction.{instruction, IsRawInstr, FixIpv4};
+ghost use Rattle.trex_profile.specs.Order.{first_each, unless};
+ghost use Rattle.trex_profile.specs.Refusal.{rule_there};
+ghost use Rattle.trex_json.specs.Names.{under, told};
+ghost use Rattle.trex_json.specs.Operands.{flow_var_wrong, flow_var, rand_limit_wrong, rand_limit, tuple_wrong, tuple, write_wrong, write, write_mask_wrong, write_mask, fix_hw_wrong, fix_hw, operands_wrong, instruction_by, instr_rules, instruction_of};
+ghost use Rattle.trex_json.specs.Rows as row;
+ghost use Rattle.trex_json.specs.Shape.{is_write, is_no_number, names_field};
+
+use crate::binary::values_told;
+use crate::kinds::{InstrWord, an_object};
+use crate::names::{
+    bool_told, instr_told, op_told, place_told, segment_told, shift_told, signed_told, size_told,
+    text_told, under, whole_told,
+};
+use serde_json::Value;
+use std::alloc::Global;
+use trex_io::Memory;
+use trex_profile::{Name, RawInstr, Rule, StreamFault};
+
+/// Whether an instruction of that word writes a variable.
+fn is_write(word: Option<InstrWord>) -> bool
+    ensures { result ≡ is_write word }
+{
+    matches!(word, Some(InstrWord::Write | InstrWord::WriteMask))
+}
+
+/// Whether there is a text that writes no whole number.
+fn is_no_number(text: Option<&str>) -> bool
+    ensures { result ≡ is_no_number (option_map (λ t. t.now) text.entry) }
+{
+    match text {
+        None => false,
+        Some(text) => trex_decimal::whole(text).is_none(),
+    }
+}
+
+/// Whether an instruction writes at the name of a field.
+fn names_field(item: &Value) -> bool
+    ensures { result ≡ names_field (view item.now) }
+{
+    is_write(instr_told(item, "type")) && is_no_number(text_told(item, "pkt_offset"))
+}
+
+/// Whether one of these instructions does.
+pub(crate) fn name_fields(items: &[Value]) -> bool
+    ensures { result ≡ list_any names_field (map view items.now) }
+{
+    for item in items {
+        if names_field(item) {
+            return true;
+        }
+    }
+    false
+}
+
+/// The name of a variable.
+fn name_told(alloc: Global, item: &Value) -> Result<Option<Name>, Memory>
+    ensures { IfOk result (λ name. name ≡ told row.name (view item.now)) }
+{
+    match text_told(item, "name") {
+        Some(text) => Ok(Some(Name::of(alloc, text)?)),
+        None => Ok(None),
+    }
+}
+
+/// The greatest number of so many bytes.
+fn greatest_of(size: u8) -> u64
+    requires { IsSize size }
+    ensures { result ≡ 256 ^ size - 1 }
+{
+    match size {
+        1 => 0xff,
+        2 => 0xffff,
+        4 => 0xffff_ffff,
+        _ => u64::MAX,
+    }
+}
+
+/// A counter, or a list where there are values.
+#[tactic(auto, unfolding(crate::specs::Operands::flow_var_wrong))]
+fn flow_var(name: Name, values: Option<Vec<u64>>, item: &Value) -> Option<RawInstr>
+    ensures value { option_map instruction result
+        ≡ (if flow_var_wrong (view item.now) then None else Some (flow_var name (option_map (λ v. v.items) values) (view item.now))) }
+    ensures range { IfSome result (λ instr. IsRawInstr (instruction instr)) }
+{
+    let size = size_told(item, "size")?;
+    let op = op_told(item, "op")?;
+    let min = whole_told(item, "min_value", u64::MAX, Some(0))?;
+    let max = whole_told(item, "max_value", u64::MAX, Some(greatest_of(size)))?;
+    let init = whole_told(item, "init_value", u64::MAX, Some(min))?;
+    let step = whole_told(item, "step", u64::MAX, Some(1))?;
+    Some(match values {
+        None => RawInstr::FlowVar {
+            name,
+            size,
+            op,
+            init,
+            min,
+            max,
+            step,
+        },
+        Some(values) => RawInstr::ListVar {
+            name,
+            size,
+            op,
+            step,
+            values,
+        },
+    })
+}
+
+/// Random numbers with a limit, drawn with the stream's seed where there is none of their own.
+#[tactic(auto, unfolding(crate::specs::Operands::rand_limit_wrong))]
+fn rand_limit(name: Name, seed: u64, item: &Value) -> Option<RawInstr>
+    ensures value { option_map instruction result
+        ≡ (if rand_limit_wrong seed (view item.now) then None else Some (rand_limit name seed (view item.now))) }
+    ensures range { IfSome result (λ instr. IsRawInstr (instruction instr)) }
+{
+    let size = size_told(item, "size")?;
+    let min = whole_told(item, "min_value", u64::MAX, Some(0))?;
+    let max = whole_told(item, "max_value", u64::MAX, Some(greatest_of(size)))?;
+    let limit = whole_told(item, "limit", u64::MAX, None)?;
+    let seed = whole_told(item, "seed", u64::MAX, Some(seed))?;
+    Some(RawInstr::RandLimit {
+        name,
+        size,
+        min,
+        max,
+        limit,
+        seed,
+    })
+}
+
+/// Pairs of an address and a port.
+#[tactic(auto, unfolding(crate::specs::Operands::tuple_wrong))]
+fn tuple(name: Name, item: &Value) -> Option<RawInstr>
+    ensures value { option_map instruction result ≡ (if tuple_wrong (view item.now) then None else Some (tuple name (view item.now))) }
+    ensures range { IfSome result (λ instr. IsRawInstr (instruction instr)) }
+{
+    let ip_min = whole_told(item, "ip_min", 4_294_967_295, None)?;
+    let ip_max = whole_told(item, "ip_max", 4_294_967_295, None)?;
+    let port_min = whole_told(item, "port_min", 65_535, None)?;
+    let port_max = whole_told(item, "port_max", 65_535, None)?;
+    let limit = whole_told(item, "limit_flows", 4_294_967_295, Some(0))?;
+    Some(RawInstr::Tuple {
+        name,
+        ip_min: ip_min as u32,
+        ip_max: ip_max as u32,
+        port_min: port_min as u16,
+        port_max: port_max as u16,
+        limit: limit as u32,
+    })
+}
+
+/// A write.
+#[tactic(auto, unfolding(crate::specs::Operands::write_wrong))]
+fn write(name: Name, item: &Value) -> Option<RawInstr>
+    ensures value { option_map instruction result ≡ (if write_wrong (view item.now) then None else Some (write name (view item.now))) }
+    ensures range { IfSome result (λ instr. IsRawInstr (instruction instr)) }
+{
+    let place = place_told(item, "pkt_offset")?;
+    let add = signed_told(item, "add_value")?;
+    let big = bool_told(item, "is_big_endian", true)?;
+    Some(RawInstr::Write {
+        name,
+        place,
+        add,
+        big,
+    })
+}
+
+/// A masked write.
+#[tactic(auto, unfolding(crate::specs::Operands::write_mask_wrong))]
+fn write_mask(name: Name, item: &Value) -> Option<RawInstr>
+    ensures value { option_map instruction result ≡ (if write_mask_wrong (view item.now) then None else Some (write_mask name (view item.now))) }
+    ensures range { IfSome result (λ instr. IsRawInstr (instruction instr)) }
+{
+    let place = place_told(item, "pkt_offset")?;
+    let add = signed_told(item, "add_value")?;
+    let big = bool_told(item, "is_big_endian", true)?;
+    let cast = size_told(item, "pkt_cast_size")?;
+    let mask = whole_told(item, "mask", u64::MAX, None)?;
+    let shift = shift_told(item, "shift")?;
+    Some(RawInstr::WriteMask {
+        name,
+        place,
+        cast,
+        mask,
+        shift,
+        add,
+        big,
+    })
+}
+
+/// The fixes of a header and of what stands behind it.
+#[tactic(auto, unfolding(crate::specs::Operands::fix_hw_wrong))]
+fn fix_hw(item: &Value) -> Option<RawInstr>
+    ensures value { option_map instruction result ≡ (if fix_hw_wrong (view item.now) then None else Some (fix_hw (view item.now))) }
+    ensures range { IfSome result (λ instr. IsRawInstr (instruction instr)) }
+{
+    let l2 = whole_told(item, "l2_len", u64::MAX, None)?;
+    let l3 = whole_told(item, "l3_len", u64::MAX, None)?;
+    let l4 = segment_told(item, "l4_type")?;
+    Some(RawInstr::FixHw { l2, l3, l4 })
+}
+
+/// The fix of an IPv4 header.
+fn fix_ipv4(item: &Value) -> Option<RawInstr>
+    ensures value { option_map instruction result ≡ option_map FixIpv4 (told row.fix_offset (view item.now)) }
+    ensures range { IfSome result (λ instr. IsRawInstr (instruction instr)) }
+{
+    let at = whole_told(item, "pkt_offset", u64::MAX, None)?;
+    Some(RawInstr::FixIpv4 { at })
+}
+
+/// An instruction of that word, where its operands are there and of their kinds.
+fn instr_by(
+    alloc: Global,
+    seed: u64,
+    word: InstrWord,
+    item: &Value,
+) -> Result<Option<RawInstr>, Memory>
+    ensures value { IfOk result (λ told. option_map instruction told
+        ≡ (if operands_wrong seed word (view item.now) then None else Some (instruction_by seed word (view item.now)))) }
+    ensures range { IfOk result (λ told. IfSome told (λ instr. IsRawInstr (instruction instr))) }
+{
+    match word {
+        InstrWord::FixIpv4 => return Ok(fix_ipv4(item)),
+        InstrWord::FixHw => return Ok(fix_hw(item)),
+        _ => {}
+    }
+    let Some(name) = name_told(alloc, item)? else {
+        return Ok(None);
+    };
+    Ok(match word {
+        InstrWord::FlowVar => match values_told(alloc, item, "value_list")? {
+            Some(values) => flow_var(name, values, item),
+            None => None,
+        },
+        InstrWord::RandLimit => rand_limit(name, seed, item),
+        InstrWord::Tuple => tuple(name, item),
+        InstrWord::Write => write(name, item),
+        InstrWord::WriteMask => write_mask(name, item),
+        _ => Some(RawInstr::Trim { name }),
+    })
+}
+
+/// The instruction at a place.
+#[tactic(auto, unfolding(crate::specs::Operands::instr_rules))]
+fn instr_of(alloc: Global, seed: u64, place: u32, item: &Value) -> Result<RawInstr, StreamFault>
+    ensures value { Gives instruction result (unless (instr_rules seed place (view item.now)) (instruction_of seed (view item.now))) }
+    ensures range { IfOk result (λ instr. IsRawInstr (instruction instr)) }
+{
+    let item = an_object(item).ok_or(StreamFault::at_place(place, Rule::BadInstruction))?;
+    let word = instr_told(item, "type").ok_or(StreamFault::at_place(place, Rule::BadInstruction))?;
+    instr_by(alloc, seed, word, item)?.ok_or(StreamFault::at_place(place, Rule::BadOperand))
+}
+
+/// The instructions of a stream, in order.
+pub(crate) fn each_instr(
+    alloc: Global,
+    seed: u64,
+    items: &[Value],
+) -> Result<Vec<RawInstr>, StreamFault>
+    requires { length items.now ≤ 256 }
+    ensures value { Gives (λ instrs. map instruction instrs.items) result
+        (unless (first_each (instr_rules seed) 0 (map view items.now)) (map (instruction_of seed) (map view items.now))) }
+    ensures few { IfOk result (λ instrs. length instrs.items ≤ 256) }
+    ensures ranges { IfOk result (λ instrs. All IsRawInstr (map instruction instrs.items)) }
+{
+    let mut instrs = Vec::new(alloc);
+    for (at, item) in items.iter().enumerate() {
+        match instr_of(alloc, seed, at as u32, item) {
+            Ok(instr) => instrs.push(instr)?,
+            Err(fault) => return Err(fault),
+        }
+    }
+    Ok(instrs)
+}

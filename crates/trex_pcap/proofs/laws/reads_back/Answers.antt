@@ -1,0 +1,5 @@
+use Rattle.trex_pcap.proofs.Readings.{capture_back}
+use Rattle.trex_pcap.proofs.laws.reads_back.Goals as goal
+
+pub returns : goal.returns
+returns c = capture_back

@@ -1,0 +1,20 @@
+/// What is wrong with a capture, and at which record; records are counted from 1.
+#[derive(Clone, Copy, Debug, PartialEq, Eq, Drop)]
+pub enum CaptureFault {
+    /// The capture ends within this record, or within the file header, which has the number 0.
+    Torn { number: u64 },
+    /// The first four bytes are no magic number in either byte order.
+    BadMagic,
+    /// The version isn't 2.4.
+    BadVersion,
+    /// The link word, all four bytes of it, isn't 1, Ethernet.
+    BadLink,
+    /// A byte follows record 100,000,000.
+    TooMany,
+    /// The fraction is a second or more.
+    BadFraction { number: u64 },
+    /// The captured length is above 262,144 bytes.
+    BadLength { number: u64 },
+    /// The source failed; the capture itself may be without a fault.
+    Fault,
+}

@@ -1,0 +1,58 @@
+use Rattle.std.proofs.Common.{◌≡◌, ℕ, Bool, List, true, length, map, ap, subst, sym, ◌∙◌, refl, is_some, arith, Option, None, Some, ◌%◌, ◌^◌}
+use Rattle.std.specs.Option.{option_map}
+use Rattle.trex_stamp.specs.declared.header.Stamp.{Stamp}
+use Rattle.trex_vars.specs.Value.{value_at}
+use Rattle.trex_vars.specs.Variable.{Variable, variable_of}
+use Rattle.trex_vm.specs.declared.instr.Instr.{Instr}
+use Rattle.trex_vm.specs.Program.{Plan, AreOperandsOf, AreSound, AreValuesOf, IsTemplateOf, plan_of}
+use Rattle.trex_vm.specs.Rules.{accepts}
+use Rattle.trex_profile.specs.Instruction.{instruction}
+use Rattle.trex_profile.specs.Packets.{variables, program, stamp_at}
+use Rattle.trex_profile.specs.Steps.{variables_from, steps_of, program_of}
+use Rattle.trex_profile.specs.Stream.{Stream, raw_stream}
+use Rattle.trex_profile.proofs.Steps.{unless-kept}
+use Rattle.trex_profile.proofs.member.Member.of.Goals as goal
+
+pub returns-clause-spec : goal.returns-clause-spec
+returns-clause-spec c =
+    let s : Stream = raw_stream c.args.raw in
+    let vars : map variable_of c.in_ok-parts.parts.vars.items ≡ variables s =
+    c.in_ok-parts.ensures.vars ∙ ap (λ raws. variables_from c.args.raw.seed 0 (map instruction raws)) c.deref.ensures.value in
+    let steps = c.in_ok-parts.ensures.steps ∙ ap (λ raws. steps_of (map instruction raws)) c.deref.ensures.value in
+    let held_vars : map variable_of c.deref-2.result.now ≡ variables s = ap (map variable_of) c.deref-2.ensures.value ∙ vars in
+    let held_program : program_of c.deref-3.result.now ≡ program s = ap program_of (c.deref-3.ensures.value ∙ steps) in
+    let same : (X : Type 0) (f : List Variable → List Instr → List ℕ → Bool → X)
+    → f (map variable_of c.deref-2.result.now) (program_of c.deref-3.result.now) c.deref-4.result.now c.is_some.result ≡ f (variables s) (program s) s.template (is_some s.flow) =
+    λ X f. ap (λ v. f v (program_of c.deref-3.result.now) c.deref-4.result.now c.is_some.result) held_vars ∙ ap (λ p. f (variables s) p c.deref-4.result.now c.is_some.result) held_program
+    ∙ ap (λ t. f (variables s) (program s) t c.is_some.result) c.deref-4.ensures.value ∙ ap (λ b. f (variables s) (program s) s.template b) c.is_some.ensures in
+    let plan : c.in_ok-program.program ≡ plan_of (program s) (variables s) s.template (is_some s.flow) =
+    sym (unless-kept _ _ _ c.in_ok-program.ensures.value).1 ∙ same Plan (λ v p t b. plan_of p v t b) in
+    let accepted : accepts (variables s) s.template (is_some s.flow) (program s) ≡ true = sym (same Bool (λ v p t b. accepts v t b p)) ∙ c.in_ok-program.ensures.accepts in
+    let operands : AreOperandsOf (variables s) (program s) =
+    subst (λ (v : List Variable). AreOperandsOf v (program s)) vars
+    (subst (λ (p : List Instr). AreOperandsOf (map variable_of c.in_ok-parts.parts.vars.items) p) (ap program_of steps) c.in_ok-parts.ensures.operands) in
+    let sound : AreSound (variables s) = subst AreSound vars c.in_ok-parts.ensures.sound in
+    record {
+      id = refl;
+      template = refl;
+      flow = refl;
+      vars = vars;
+      sound = sound;
+      plan = plan;
+      fits = subst (λ (p : Plan). IsTemplateOf p s.template) (sym plan) (c.programs_fit.ensures.template (program s) (variables s) s.template (is_some s.flow) accepted);
+      values = λ number. subst (λ (p : Plan). AreValuesOf p (map (λ v. value_at v number) (variables s))) (sym plan)
+          (c.programs_fit.ensures.values (program s) (variables s) s.template (is_some s.flow) number operands sound accepted);
+      short = λ number time.
+          let within = c.programs_fit.ensures.short (program s) (variables s) s.template (stamp_at s number time) number operands sound
+          (subst (λ b. accepts (variables s) s.template b (program s) ≡ true) (sym (stamps number time s.flow)) accepted) c.in_ok-period.ensures.at_least c.in_ok-period.ensures.at_most in
+          let most = c.in_ok-period.ensures.at_most in
+          omega (arith, within, most);
+    }
+  where
+    stamp : ℕ → ℕ → ℕ → Stamp
+    stamp f number time = record { flow = f; sequence = number % 2 ^ 32; time = time }
+
+    -- a stream's packets are stamped where it has a flow
+    stamps : (number time : ℕ) (flow : Option ℕ) → is_some (option_map (λ f. stamp f number time) flow) ≡ is_some flow
+    stamps number time None = refl
+    stamps number time (Some f) = refl

@@ -1,0 +1,25 @@
+-- The packets of a stream (own).
+use Rattle.std.specs.Prelude.{ℕ, ◌%◌, ◌^◌, List, map, Option, option_map}
+use Rattle.trex_stamp.specs.declared.header.Stamp.{Stamp}
+use Rattle.trex_vars.specs.Variable.{Variable}
+use Rattle.trex_vars.specs.Value.{value_at}
+use Rattle.trex_vm.specs.declared.instr.Instr.{Instr}
+use Rattle.trex_vm.specs.Packet.{packet}
+use Rattle.trex_profile.specs.Stream.{Stream}
+use Rattle.trex_profile.specs.Steps.{variables_from, steps_of, program_of}
+
+-- the variables of a stream, in the order of their instructions
+abbrev pub variables : Stream → List Variable
+variables s = variables_from s.seed 0 s.instrs
+
+-- the program of a stream: its other instructions, in order, each name resolved
+abbrev pub program : Stream → List Instr
+program s = program_of (steps_of s.instrs)
+
+-- the latency header of the packet of a number at an absolute time in nanoseconds, where the stream has a flow
+abbrev pub stamp_at : Stream → ℕ → ℕ → Option Stamp
+stamp_at s number time = option_map (λ flow. record { flow = flow; sequence = number % 2 ^ 32; time = time }) s.flow
+
+-- the packet of a number at an absolute time in nanoseconds
+abbrev pub packet_of : Stream → ℕ → ℕ → List ℕ
+packet_of s number time = packet (program s) (map (λ v. value_at v number) (variables s)) (stamp_at s number time) s.template

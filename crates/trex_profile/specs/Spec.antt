@@ -1,0 +1,21 @@
+-- What an admitted stream's packets are made of (own).
+use Rattle.std.specs.Prelude.{◌≡◌, ℕ, ◌≤◌, length, map, is_some}
+use Rattle.trex_vars.specs.Variable.{variable_of}
+use Rattle.trex_vars.specs.Value.{value_at}
+use Rattle.trex_vm.specs.Program.{AreSound, AreValuesOf, IsTemplateOf, plan_of}
+use Rattle.trex_profile.specs.declared.member.StreamSpec.{StreamSpec}
+use Rattle.trex_profile.specs.Packets.{variables, program, packet_of}
+use Rattle.trex_profile.specs.Stream.{Stream}
+
+-- It says what the packets of a stream are made of: its variables, of which none has a fault, and a program that is meant for its
+-- template and for the values of the variables at each packet number. No packet is longer than the longest.
+pub record IsSpecOf (s : Stream) (spec : StreamSpec) : Type 0 where
+  pub id : spec.id ≡ s.id
+  pub template : spec.template.items ≡ s.template
+  pub flow : spec.flow ≡ s.flow
+  pub vars : map variable_of spec.vars.items ≡ variables s
+  pub sound : AreSound (variables s)
+  pub plan : spec.program ≡ plan_of (program s) (variables s) s.template (is_some s.flow)
+  pub fits : IsTemplateOf spec.program s.template
+  pub values : (number : ℕ) → AreValuesOf spec.program (map (λ v. value_at v number) (variables s))
+  pub short : (number time : ℕ) → length (packet_of s number time) ≤ 9216

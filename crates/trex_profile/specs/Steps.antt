@@ -1,0 +1,73 @@
+-- What a stream's instructions come to in a program (own).
+use Rattle.std.specs.Prelude.{ℕ, ◌+◌, ◌==◌, List, [], ◌∷◌, ◌++◌, map, Option, None, Some, option_map, option_to_list, unwrap_or, if◌then◌else◌}
+use Rattle.trex_vars.specs.Variable.{Variable, Counter, RandLimit as RandLimitVariable, ListOf, Tuple as TupleVariable}
+use Rattle.trex_vm.specs.declared.instr.L4Kind.TheVariants.{Tcp, Udp}
+use Rattle.trex_vm.specs.declared.instr.Instr.{Instr}
+use Rattle.trex_vm.specs.declared.instr.Instr.TheVariants.{Write as WriteInstr, WriteMask as WriteMaskInstr, FixIpv4 as FixIpv4Instr, FixL4, Trim as TrimInstr}
+use Rattle.trex_profile.specs.declared.raw.RawPlace.{RawPlace}
+use Rattle.trex_profile.specs.declared.raw.RawPlace.TheVariants.{At}
+use Rattle.trex_profile.specs.declared.step.Step.{Step}
+use Rattle.trex_profile.specs.declared.step.Step.TheVariants.{Makes, Does, FixesHeader, FixesSegment}
+use Rattle.trex_profile.specs.Instruction.{Instruction, FlowVar, ListVar, RandLimit, Tuple, Write, WriteMask, FixIpv4, FixHw, Trim}
+use Rattle.trex_profile.specs.Given.{Given, givens, operand_of}
+
+-- The variable of the instruction at a place, where it makes one. A random number is drawn with the stream's seed, or with one of
+-- the instruction's own.
+abbrev pub variable_at : ℕ → ℕ → Instruction → Option Variable
+variable_at seed place (FlowVar name size op init min max step) = Some (Counter op size init min max step seed place)
+variable_at seed place (ListVar name size op step values) = Some (ListOf op size step values seed place)
+variable_at seed place (RandLimit name size min max limit own) = Some (RandLimitVariable size min max limit own place)
+variable_at seed place (Tuple name ip_min ip_max port_min port_max limit) = Some (TupleVariable ip_min ip_max port_min port_max limit)
+variable_at seed place (Write name at add big) = None
+variable_at seed place (WriteMask name at cast mask shift add big) = None
+variable_at seed place (FixIpv4 at) = None
+variable_at seed place (FixHw l2 l3 l4) = None
+variable_at seed place (Trim name) = None
+
+-- the variables of instructions, in order, where the first instruction stands at a place
+abbrev pub variables_from : ℕ → ℕ → List Instruction → List Variable
+variables_from seed place [] = []
+variables_from seed place (x ∷ xs) = option_to_list (variable_at seed place x) ++ variables_from seed (place + 1) xs
+
+-- the byte at which a write begins
+abbrev pub byte_at : RawPlace → ℕ
+byte_at (At n) = n
+
+-- The fix of an IPv4 header of so many bytes (RFC 791, section 3.1), and for 11 that of the UDP segment behind it (RFC 768), for 13
+-- that of the TCP segment (RFC 793).
+abbrev pub fixes : ℕ → ℕ → ℕ → Step
+fixes l2 l3 l4 = if l4 == 11 then FixesSegment l2 l3 Udp else if l4 == 13 then FixesSegment l2 l3 Tcp else FixesHeader l2 l3
+
+-- what an instruction comes to, where the name that it uses is given
+abbrev pub resolved : List Given → Instruction → Option Step
+resolved names (FlowVar name size op init min max step) = Some Makes
+resolved names (ListVar name size op step values) = Some Makes
+resolved names (RandLimit name size min max limit seed) = Some Makes
+resolved names (Tuple name ip_min ip_max port_min port_max limit) = Some Makes
+resolved names (Write name place add big) =
+    option_map (λ from. Does (WriteInstr from (byte_at place) add big)) (operand_of names name)
+resolved names (WriteMask name place cast mask shift add big) =
+    option_map (λ from. Does (WriteMaskInstr from (byte_at place) cast mask shift add big)) (operand_of names name)
+resolved names (FixIpv4 at) = Some (Does (FixIpv4Instr at))
+resolved names (FixHw l2 l3 l4) = Some (fixes l2 l3 l4)
+resolved names (Trim name) = option_map (λ from. Does (TrimInstr from)) (operand_of names name)
+
+-- the same, nothing where the name isn't given, which a rule then refuses
+abbrev pub step : List Given → Instruction → Step
+step names x = unwrap_or (resolved names x) Makes
+
+-- what instructions come to
+abbrev pub steps_of : List Instruction → List Step
+steps_of instrs = map (step (givens 0 instrs)) instrs
+
+-- the instructions of a step in a program
+abbrev pub instrs_of : Step → List Instr
+instrs_of Makes = []
+instrs_of (Does instr) = instr ∷ []
+instrs_of (FixesHeader at header) = FixIpv4Instr at ∷ []
+instrs_of (FixesSegment ip header kind) = FixIpv4Instr ip ∷ FixL4 ip header kind ∷ []
+
+-- the program of steps
+abbrev pub program_of : List Step → List Instr
+program_of [] = []
+program_of (s ∷ steps) = instrs_of s ++ program_of steps

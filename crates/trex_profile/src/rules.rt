@@ -1,0 +1,218 @@
+// The rules on what a stream's instructions do.
+
+ghost use Rattle.std.specs.Prelude.{◌≡◌, ◌≤◌, ◌==◌, not, All, length, map};
+ghost use Rattle.trex_vars.specs.Variable.{variable_of};
+ghost use Rattle.trex_vm.specs.Fix.{header_length};
+ghost use Rattle.trex_vm.specs.Program.{AreSound, TakesFrom};
+ghost use Rattle.trex_vm.specs.Rules.{is_trim, least_length, trim_wrong, writes_past, touches_shape};
+ghost use Rattle.trex_profile.specs.InstrRules.{twice_rule, trim_rule, room_rule, fix_rule, shape_rule, does, fix_wrong, length_rules, place_rules};
+ghost use Rattle.trex_profile.specs.Order.{first_each};
+ghost use Rattle.trex_profile.specs.Steps.{instrs_of, program_of};
+
+use crate::refusal::Breach;
+use crate::rule::Rule;
+use crate::step::Step;
+use trex_vars::VarSpec;
+use trex_vm::{
+    Instr, is_trim, least_length, misses_header, touches_shape, trim_wrong, writes_past,
+};
+
+/// The least number of bytes of a stamped packet: an Ethernet header and the latency header.
+const LEAST_STAMPED: usize = 30;
+
+/// Whether a step is a trim.
+fn cuts(step: &Step) -> bool
+    ensures { result ≡ does is_trim step.now }
+{
+    match *step {
+        Step::Does(instr) => is_trim(&instr),
+        _ => false,
+    }
+}
+
+/// The breach by a second trim.
+fn second_trim(steps: &[Step]) -> Option<Breach>
+    requires { length steps.now ≤ 256 }
+    ensures { result ≡ first_each (twice_rule steps.now) 0 steps.now }
+{
+    let mut is_cut = false;
+    for (at, step) in steps.iter().enumerate() {
+        if cuts(step) {
+            if is_cut {
+                return Some(Breach::at_place(at as u32, Rule::TwoTrims));
+            }
+            is_cut = true;
+        }
+    }
+    None
+}
+
+/// Whether a step is a trim out of range.
+fn cuts_wrong(vars: &[VarSpec], template: usize, step: &Step) -> bool
+    requires operands { All (TakesFrom (length vars.now)) (instrs_of step.now) }
+    requires sound { AreSound (map variable_of vars.now) }
+    ensures { result ≡ does (trim_wrong (map variable_of vars.now) template) step.now }
+{
+    match *step {
+        Step::Does(instr) => trim_wrong(vars, template, &instr),
+        _ => false,
+    }
+}
+
+/// The breach by a trim out of range.
+fn wrong_trim(vars: &[VarSpec], template: usize, steps: &[Step]) -> Option<Breach>
+    requires few { length steps.now ≤ 256 }
+    requires operands { All (λ step. All (TakesFrom (length vars.now)) (instrs_of step)) steps.now }
+    requires sound { AreSound (map variable_of vars.now) }
+    ensures { result ≡ first_each (trim_rule (map variable_of vars.now) template) 0 steps.now }
+{
+    for (at, step) in steps.iter().enumerate() {
+        if cuts_wrong(vars, template, step) {
+            return Some(Breach::at_place(at as u32, Rule::TrimRange));
+        }
+    }
+    None
+}
+
+/// The breach of a rule on the packets' lengths.
+#[tactic(auto, unfolding(crate::specs::InstrRules::length_rules))]
+pub(crate) fn length_breach(
+    vars: &[VarSpec],
+    template: usize,
+    stamped: bool,
+    steps: &[Step],
+    program: &[Instr],
+) -> Option<Breach>
+    requires few { length steps.now ≤ 256 }
+    requires operands { All (λ step. All (TakesFrom (length vars.now)) (instrs_of step)) steps.now }
+    requires all_operands { All (TakesFrom (length vars.now)) program.now }
+    requires sound { AreSound (map variable_of vars.now) }
+    requires program { program.now ≡ program_of steps.now }
+    ensures { result ≡ length_rules (map variable_of vars.now) template stamped steps.now }
+{
+    if let Some(breach) = second_trim(steps) {
+        return Some(breach);
+    }
+    if let Some(breach) = wrong_trim(vars, template, steps) {
+        return Some(breach);
+    }
+    if stamped && least_length(vars, program, template) < LEAST_STAMPED {
+        return Some(Breach::of_stream(Rule::NoRoomForStamp));
+    }
+    None
+}
+
+/// Whether a step is a write that ends after the room.
+fn ends_past(room: usize, step: &Step) -> bool
+    ensures { result ≡ does (writes_past room) step.now }
+{
+    match *step {
+        Step::Does(instr) => writes_past(room, &instr),
+        _ => false,
+    }
+}
+
+/// The breach by a write that ends after the room.
+fn write_past(room: usize, steps: &[Step]) -> Option<Breach>
+    requires { length steps.now ≤ 256 }
+    ensures { result ≡ first_each (room_rule room) 0 steps.now }
+{
+    for (at, step) in steps.iter().enumerate() {
+        if ends_past(room, step) {
+            return Some(Breach::at_place(at as u32, Rule::WriteRoom));
+        }
+    }
+    None
+}
+
+/// Whether the header at a byte of the template isn't so long.
+fn has_other_length(template: &[u8], at: usize, header: usize) -> bool
+    ensures { result ≡ not (header == header_length template.now at) }
+{
+    let first = template.get(at).copied().unwrap_or(0);
+    header != usize::from(first % 16) * 4
+}
+
+/// Whether a step is a fix that has no header to fix.
+fn fixes_nothing(template: &[u8], room: usize, step: &Step) -> bool
+    requires { room ≤ length template.now }
+    ensures { result ≡ fix_wrong template.now room step.now }
+{
+    match *step {
+        Step::Makes => false,
+        Step::Does(instr) => misses_header(template, room, &instr),
+        Step::FixesHeader { at, header } => {
+            misses_header(template, room, &Instr::FixIpv4 { at })
+                || has_other_length(template, at, header)
+        }
+        Step::FixesSegment { ip, header, kind } => {
+            misses_header(template, room, &Instr::FixIpv4 { at: ip })
+                || misses_header(template, room, &Instr::FixL4 { ip, header, kind })
+                || has_other_length(template, ip, header)
+        }
+    }
+}
+
+/// The breach by a fix that has no header to fix.
+fn wrong_fix(template: &[u8], room: usize, steps: &[Step]) -> Option<Breach>
+    requires few { length steps.now ≤ 256 }
+    requires within { room ≤ length template.now }
+    ensures { result ≡ first_each (fix_rule template.now room) 0 steps.now }
+{
+    for (at, step) in steps.iter().enumerate() {
+        if fixes_nothing(template, room, step) {
+            return Some(Breach::at_place(at as u32, Rule::BadFix));
+        }
+    }
+    None
+}
+
+/// Whether a step writes on a byte on which the place of a fixed header rests.
+fn writes_on_shape(program: &[Instr], step: &Step) -> bool
+    ensures { result ≡ does (touches_shape program.now) step.now }
+{
+    match *step {
+        Step::Makes => false,
+        Step::Does(instr) => touches_shape(program, &instr),
+        Step::FixesHeader { at, .. } => touches_shape(program, &Instr::FixIpv4 { at }),
+        Step::FixesSegment { ip, header, kind } => {
+            touches_shape(program, &Instr::FixIpv4 { at: ip })
+                || touches_shape(program, &Instr::FixL4 { ip, header, kind })
+        }
+    }
+}
+
+/// The breach by a write on a byte on which the place of a fixed header rests.
+fn write_on_shape(program: &[Instr], steps: &[Step]) -> Option<Breach>
+    requires { length steps.now ≤ 256 }
+    ensures { result ≡ first_each (shape_rule program.now) 0 steps.now }
+{
+    for (at, step) in steps.iter().enumerate() {
+        if writes_on_shape(program, step) {
+            return Some(Breach::at_place(at as u32, Rule::WriteOnShape));
+        }
+    }
+    None
+}
+
+/// The breach of a rule on the places that are written.
+#[tactic(auto, unfolding(crate::specs::InstrRules::place_rules))]
+pub(crate) fn place_breach(
+    template: &[u8],
+    room: usize,
+    steps: &[Step],
+    program: &[Instr],
+) -> Option<Breach>
+    requires few { length steps.now ≤ 256 }
+    requires within { room ≤ length template.now }
+    requires program { program.now ≡ program_of steps.now }
+    ensures { result ≡ place_rules template.now room steps.now }
+{
+    if let Some(breach) = write_past(room, steps) {
+        return Some(breach);
+    }
+    if let Some(breach) = wrong_fix(template, room, steps) {
+        return Some(breach);
+    }
+    write_on_shape(program, steps)
+}

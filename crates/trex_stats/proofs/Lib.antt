@@ -1,0 +1,5 @@
+pub mod Clean
+pub mod Members
+pub mod Pushes
+pub mod Spans
+pub mod Standing

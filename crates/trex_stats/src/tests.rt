@@ -1,0 +1,219 @@
+// Expected lines come from a second program, which counts by the definitions over the whole list.
+
+ghost use Rattle.std.specs.Prelude.{◌≤◌, length};
+
+use super::*;
+use std::alloc::Global;
+use std::test::Fail;
+use trex_io::Memory;
+use trex_stamp::{Stamp, stamp};
+
+// A packet of a flow: its sequence number, when it was due and when it came, in ns.
+#[derive(Clone, Copy, Drop)]
+struct Came(u16, u32, u64, u64);
+
+// The counts of packets of 16 bytes that are their stamps.
+fn counts_of(alloc: Global, packets: &[Came]) -> Result<Stats, Memory>
+    requires { length packets.now ≤ 100 }
+{
+    let mut stats = Stats::new(alloc);
+    for Came(flow, sequence, time, came) in packets {
+        let bytes = stamp(&Stamp {
+            flow: *flow,
+            sequence: *sequence,
+            time: *time,
+        });
+        stats.add(*came, &bytes, 16)?;
+    }
+    Ok(stats)
+}
+
+// A line of flow 0 with no early packet.
+fn line(received: u64, duplicates: u64, lost: u64, reordered: u64) -> FlowLine {
+    FlowLine {
+        flow: 0,
+        received,
+        duplicates,
+        lost,
+        reordered,
+        early: 0,
+        least: 0,
+        greatest: 0,
+        sum: 0,
+    }
+}
+
+// The only line of some packets of flow 0.
+fn line_of(alloc: Global, packets: &[Came]) -> Result<Option<FlowLine>, Memory>
+    requires { length packets.now ≤ 100 }
+{
+    Ok(counts_of(alloc, packets)?.flows().next())
+}
+
+#[test]
+fn a_late_packet_is_reordered_and_a_repeat_is_a_duplicate(rt: HostRuntime) -> Result<(), Fail> {
+    let due = 1_000_000_000;
+    let packets = [
+        Came(7, 0, due, due + 1_000),
+        Came(7, 2, due, due + 2_000),
+        Came(7, 1, due, due + 3_000),
+        Came(7, 2, due, due + 4_000),
+        Came(7, 5, due, due + 5_000),
+    ];
+    let stats = counts_of(rt.alloc(), &packets)?;
+    assert_eq!(rt; stats.len(), 1);
+    let wanted = FlowLine {
+        flow: 7,
+        least: 1_000,
+        greatest: 5_000,
+        sum: 15_000,
+        ..line(5, 1, 2, 1)
+    };
+    assert_eq!(rt; stats.flow(0), wanted);
+    let totals = Totals {
+        records: 5,
+        bytes: 80,
+        stamped: 5,
+    };
+    assert_eq!(rt; stats.totals(), totals);
+    Ok(())
+}
+
+#[test]
+fn numbers_are_counted_in_whatever_order_they_come(rt: HostRuntime) -> Result<(), Fail> {
+    let reverse = [
+        Came(0, 4, 0, 7),
+        Came(0, 3, 0, 7),
+        Came(0, 2, 0, 7),
+        Came(0, 1, 0, 7),
+        Came(0, 0, 0, 7),
+    ];
+    let wanted = FlowLine {
+        least: 7,
+        greatest: 7,
+        sum: 35,
+        ..line(5, 0, 0, 4)
+    };
+    assert_eq!(rt; line_of(rt.alloc(), &reverse)?, Some(wanted));
+    let repeats = [
+        Came(0, 3, 0, 0),
+        Came(0, 3, 0, 1),
+        Came(0, 3, 0, 2),
+        Came(0, 0, 0, 3),
+        Came(0, 0, 0, 4),
+    ];
+    let wanted = FlowLine {
+        greatest: 4,
+        sum: 10,
+        ..line(5, 3, 2, 1)
+    };
+    assert_eq!(rt; line_of(rt.alloc(), &repeats)?, Some(wanted));
+    let last = [Came(0, 4_294_967_295, 0, 0)];
+    assert_eq!(rt;
+        line_of(rt.alloc(), &last)?,
+        Some(line(1, 0, 4_294_967_295, 0))
+    );
+    Ok(())
+}
+
+#[test]
+fn an_early_packet_has_no_latency(rt: HostRuntime) -> Result<(), Fail> {
+    let only = [Came(0, 0, u64::MAX, 0)];
+    let wanted = FlowLine {
+        early: 1,
+        ..line(1, 0, 0, 0)
+    };
+    assert_eq!(rt; line_of(rt.alloc(), &only)?, Some(wanted));
+    let between = [
+        Came(0, 0, 10, 4),
+        Came(0, 1, 10, 30),
+        Came(0, 2, 10, 9),
+        Came(0, 3, 10, 12),
+        Came(0, 4, 10, 10),
+    ];
+    let wanted = FlowLine {
+        early: 2,
+        greatest: 20,
+        sum: 22,
+        ..line(5, 0, 0, 0)
+    };
+    assert_eq!(rt; line_of(rt.alloc(), &between)?, Some(wanted));
+    Ok(())
+}
+
+#[test]
+fn flows_come_in_rising_order_of_number(rt: HostRuntime) -> Result<(), Fail> {
+    let packets = [
+        Came(65_535, 0, 0, 0),
+        Came(0, 0, 0, 0),
+        Came(65_535, 1, 0, 0),
+    ];
+    let stats = counts_of(rt.alloc(), &packets)?;
+    let mut flows = stats.flows();
+    assert_eq!(rt; flows.next(), Some(line(1, 0, 0, 0)));
+    let last = FlowLine {
+        flow: 65_535,
+        ..line(2, 0, 0, 0)
+    };
+    assert_eq!(rt; flows.next(), Some(last));
+    assert_eq!(rt; flows.next(), None);
+    assert_eq!(rt; stats.len(), 2);
+    assert_eq!(rt; stats.flow(1), last);
+    Ok(())
+}
+
+#[test]
+fn only_a_whole_packet_counts_for_a_flow(rt: HostRuntime) -> Result<(), Fail> {
+    let bytes = stamp(&Stamp {
+        flow: 0,
+        sequence: 0,
+        time: 0,
+    });
+    let mut stats = Stats::new(rt.alloc());
+    stats.add(0, &bytes, 15)?;
+    stats.add(0, &bytes, 17)?;
+    stats.add(0, &bytes[1..], 15)?;
+    stats.add(0, &[], 0)?;
+    assert_eq!(rt; stats.len(), 0);
+    let totals = Totals {
+        records: 4,
+        bytes: 47,
+        stamped: 0,
+    };
+    assert_eq!(rt; stats.totals(), totals);
+    Ok(())
+}
+
+#[test]
+fn a_set_of_numbers_joins_its_ranges(rt: HostRuntime) -> Result<(), Fail> {
+    let mut set = SeqRanges::new(rt.alloc());
+    assert_eq!(rt; set.greatest(), None);
+    for (number, new, count) in [
+        (5, true, 1),
+        (3, true, 2),
+        (5, false, 2),
+        (4, true, 3),
+        (3, false, 3),
+        (0, true, 4),
+        (u64::MAX, true, 5),
+        (u64::MAX, false, 5),
+        (6, true, 6),
+        (2, true, 7),
+    ] {
+        assert!(rt; set.count() < 100);
+        assert_eq!(rt; set.insert(number)?, new, "{number}");
+        assert_eq!(rt; set.count(), count, "{number}");
+    }
+    assert_eq!(rt; set.greatest(), Some(u64::MAX));
+    for (number, there) in [
+        (0, true),
+        (1, false),
+        (2, true),
+        (6, true),
+        (7, false),
+        (u64::MAX - 1, false),
+    ] {
+        assert_eq!(rt; set.contains(number), there, "{number}");
+    }
+    Ok(())
+}

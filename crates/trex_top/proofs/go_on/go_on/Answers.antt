@@ -1,0 +1,71 @@
+use Rattle.std.proofs.Common.{◌≡◌, ◌+◌, ◌-◌, ◌<◌, ◌≤◌, ◌^◌, ap, sym, ◌∙◌, arith}
+use Rattle.trex_core.specs.Plan.{frames_of_plan}
+use Rattle.trex_core.specs.Works.{added}
+use Rattle.trex_crew.specs.Crews.{works_of}
+use Rattle.trex_merge.specs.declared.next.Next.{Next}
+use Rattle.trex_merge.specs.Queues.{next_of}
+use Rattle.trex_top.specs.Ready.{queues_of}
+use Rattle.trex_top.specs.Steps.{rounds_after, state_of, stepped}
+use Rattle.trex_top.proofs.Readying.{after_emit, gone, sent_after_is, sent_within, turns_below}
+use Rattle.trex_top.proofs.go_on.go_on.Goals as goal
+
+pub supply-requires-clause-turns : goal.supply-requires-clause-turns
+supply-requires-clause-turns g c =
+    let frames = frames_of_plan c.args.plan.now in
+    let emit = c.emit-then.ensures in
+    let after : c.emit-then.result ≡ next_of (c.args.mill.now.limit - c.emit-then.new.mill.sent) (queues_of (works_of c.emit-then.new.crew)) =
+    rw emit.limit at emit.next in
+    let sends = after_emit frames (works_of c.args.crew.now) (works_of c.emit-then.new.crew) c.args.crew.now.rounds
+    c.args.mill.now.limit c.args.mill.now.sent c.emit-then.new.mill.sent c.args.next c.emit-then.result c.requires.ready
+    emit.queues emit.marks emit.sent after in
+    let within = sent_within frames (works_of c.emit-then.new.crew) c.args.crew.now.rounds c.args.mill.now.limit c.emit-then.new.mill.sent c.emit-then.result sends.ready in
+    let few = sends.ready.limited in
+    λ lifetimes order. turns_below c.emit-then.new.mill.sent (2 ^ 63) (works_of c.emit-then.new.crew) (omega (arith, within, few)) sends.turns
+
+pub returns-clause-ready : goal.returns-clause-ready
+returns-clause-ready g c =
+    let frames = frames_of_plan c.args.plan.now in
+    let emit = c.emit-then.ensures in
+    let supply = c.supply.ensures in
+    let after : c.emit-then.result ≡ next_of (c.args.mill.now.limit - c.emit-then.new.mill.sent) (queues_of (works_of c.emit-then.new.crew)) =
+    rw emit.limit at emit.next in
+    let next : c.supply.result ≡ next_of (c.args.mill.now.limit - c.emit-then.new.mill.sent) (queues_of (works_of c.supply.new.crew)) =
+    rw emit.limit at supply.next in
+    let rounds = supply.rounds ∙ ap (rounds_after c.emit-then.result) emit.rounds in
+    let all = gone frames (works_of c.args.crew.now) (works_of c.emit-then.new.crew) (works_of c.supply.new.crew)
+    c.args.crew.now.rounds c.supply.new.crew.rounds c.args.mill.now.limit c.args.mill.now.sent c.emit-then.new.mill.sent
+    c.args.next c.emit-then.result c.supply.result c.requires.ready
+    emit.queues emit.marks emit.sent after supply.works rounds next in
+    rw emit.limit all.ready
+
+pub returns-clause-state : goal.returns-clause-state
+returns-clause-state g c =
+    let frames = frames_of_plan c.args.plan.now in
+    let emit = c.emit-then.ensures in
+    let supply = c.supply.ensures in
+    let after : c.emit-then.result ≡ next_of (c.args.mill.now.limit - c.emit-then.new.mill.sent) (queues_of (works_of c.emit-then.new.crew)) =
+    rw emit.limit at emit.next in
+    let next : c.supply.result ≡ next_of (c.args.mill.now.limit - c.emit-then.new.mill.sent) (queues_of (works_of c.supply.new.crew)) =
+    rw emit.limit at supply.next in
+    let rounds = supply.rounds ∙ ap (rounds_after c.emit-then.result) emit.rounds in
+    let all = gone frames (works_of c.args.crew.now) (works_of c.emit-then.new.crew) (works_of c.supply.new.crew)
+    c.args.crew.now.rounds c.supply.new.crew.rounds c.args.mill.now.limit c.args.mill.now.sent c.emit-then.new.mill.sent
+    c.args.next c.emit-then.result c.supply.result c.requires.ready
+    emit.queues emit.marks emit.sent after supply.works rounds next in
+    rw emit.limit all.state
+
+pub returns-clause-served : goal.returns-clause-served
+returns-clause-served g c =
+    let frames = frames_of_plan c.args.plan.now in
+    let emit = c.emit-then.ensures in
+    let supply = c.supply.ensures in
+    let after : c.emit-then.result ≡ next_of (c.args.mill.now.limit - c.emit-then.new.mill.sent) (queues_of (works_of c.emit-then.new.crew)) =
+    rw emit.limit at emit.next in
+    let next : c.supply.result ≡ next_of (c.args.mill.now.limit - c.emit-then.new.mill.sent) (queues_of (works_of c.supply.new.crew)) =
+    rw emit.limit at supply.next in
+    let rounds = supply.rounds ∙ ap (rounds_after c.emit-then.result) emit.rounds in
+    let all = gone frames (works_of c.args.crew.now) (works_of c.emit-then.new.crew) (works_of c.supply.new.crew)
+    c.args.crew.now.rounds c.supply.new.crew.rounds c.args.mill.now.limit c.args.mill.now.sent c.emit-then.new.mill.sent
+    c.args.next c.emit-then.result c.supply.result c.requires.ready
+    emit.queues emit.marks emit.sent after supply.works rounds next in
+    all.served

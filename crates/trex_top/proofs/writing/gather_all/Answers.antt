@@ -1,0 +1,84 @@
+use Rattle.std.proofs.Common.{◌≡◌, ℕ, ◌+◌, ◌*◌, ◌-◌, ◌<◌, ◌≤◌, ◌^◌, true, false, List, [], ◌∷◌, ◌++◌, length, map, take, drop, slice_get, Some, refl, sym, ap, ◌∙◌, subst, arith, append-nil, length-drop}
+use Rattle.std.proofs.Math.Seq.{take-length}
+use Rattle.std.proofs.KnownBytes.{Appends-nil}
+use Rattle.std.proofs.lemmas.Option.{slice_get_within}
+use Rattle.trex_io.specs.Texts.{WrotePart}
+use Rattle.trex_pcap.specs.Writing.{file_header, record_of, capture_of}
+use Rattle.trex_merge.specs.Frames.{Frame, frame_of}
+use Rattle.trex_top.specs.Capture.{capture_text, packet_at}
+use Rattle.trex_top.specs.Pieces.{Gathers}
+use Rattle.trex_top.specs.Ready.{Stand, all_of}
+use Rattle.trex_top.specs.Steps.{seen}
+use Rattle.trex_top.proofs.Gathering.{Gathers-more, Gathers-part, capture_of-more, capture_of-front}
+use Rattle.trex_top.proofs.Readying.{all_same, found_next, seen_more}
+use Rattle.trex_top.proofs.Schedule.{take-next}
+use Rattle.trex_top.proofs.writing.gather_all.Goals as goal
+
+pub overflow_add-base : goal.overflow_add-base
+overflow_add-base g c =
+    let early = c.current-head.ensures.early in
+    let base = c.from-base.ensures in
+    omega (arith, base, early, c.requires.base)
+
+pub gather-requires-clause-time : goal.gather-requires-clause-time
+gather-requires-clause-time g c =
+    let early = c.current-head.ensures.early in
+    let base = c.from-base.ensures in
+    omega (arith, base, early, c.requires.base)
+
+pub gather-requires-clause-small : goal.gather-requires-clause-small
+gather-requires-clause-small g c = let short = c.current-head.ensures.short in omega (arith, short)
+
+pub returns-in-Err-clause-part : goal.returns-in-Err-clause-part
+returns-in-Err-clause-part g c =
+    let all = all_of c.args.progress.now in
+    let k = seen c.packets.progress.state in
+    let within = c.packets.invariant.within in
+    let front = capture_of-front (packet_at c.args.base) k (length all) all within in
+    let whole : capture_text c.args.base all ≡ capture_text c.args.base (take k all) ++ front.0 =
+    ap (capture_text c.args.base) (sym (take-length all)) ∙ front.1 in
+    subst (WrotePart g.O.Sink.held c.args.out.now c.gather.new.out) (sym whole)
+    (Gathers-part g.O.Sink.held c.args.out.now c.packets.out c.gather.new.out c.packets.piece.items _ front.0 c.packets.invariant.gathered c.in-Err.ensures.part)
+
+pub packets-smaller : goal.packets-smaller
+packets-smaller g c =
+    let all = all_of c.args.progress.now in
+    let k = seen c.packets.progress.state in
+    let more = seen_more c.step.new.self.state k c.step.ensures.sent (sym c.step.ensures.more ∙ c.packets-test.true) in
+    let same = all_same c.step.new.self c.args.progress.now (c.step.ensures.plan ∙ c.packets.invariant.plan) (c.step.ensures.limit ∙ c.packets.invariant.limit) in
+    let found : slice_get (drop k all) 0 ≡ Some (frame_of c.current-head.result) =
+    rw same at (found_next c.step.new.self k (frame_of c.current-head.result) c.step.ensures.sent c.current-head.ensures.packet) in
+    let left = slice_get_within (drop k all) 0 (frame_of c.current-head.result) found in
+    let long = length-drop k all in
+    omega (arith, more, left, long)
+
+pub packets-preserved : goal.packets-preserved
+packets-preserved g c =
+    let all = all_of c.args.progress.now in
+    let k = seen c.packets.progress.state in
+    let frame : Frame = frame_of c.current-head.result in
+    let f = packet_at c.args.base in
+    let more = seen_more c.step.new.self.state k c.step.ensures.sent (sym c.step.ensures.more ∙ c.packets-test.true) in
+    let plan = c.step.ensures.plan ∙ c.packets.invariant.plan in
+    let limit = c.step.ensures.limit ∙ c.packets.invariant.limit in
+    let same = all_same c.step.new.self c.args.progress.now plan limit in
+    let found : slice_get (drop k all) 0 ≡ Some frame =
+    rw same at (found_next c.step.new.self k frame c.step.ensures.sent c.current-head.ensures.packet) in
+    let left = slice_get_within (drop k all) 0 frame found in
+    let long = length-drop k all in
+    let gathered = Gathers-more g.O.Sink.held c.args.out.now c.packets.out c.gather.new.out c.packets.piece.items _ _ c.gather.new.piece.items
+    c.packets.invariant.gathered c.in_default.ensures.gathers in
+    let text = capture_text c.args.base (take k all) in
+    let record_same : record_of (record { time = c.from-base.result * 10 ^ 9 + c.current-head.result.time; bytes = c.current-head.result.bytes.now }) ≡ record_of (f frame) =
+    rw c.from-base.ensures refl in
+    let goes : text ++ record_of (f frame) ≡ capture_text c.args.base (take (seen c.step.new.self.state) all) =
+    sym (capture_of-more f (take k all) frame) ∙ ap (capture_text c.args.base) (sym (take-next k all frame found))
+    ∙ ap (λ n. capture_text c.args.base (take n all)) (sym more) in
+    record {
+      plan = plan;
+      limit = limit;
+      gathered = subst (λ (t : List ℕ). Gathers g.O.Sink.held c.args.out.now c.gather.new.out c.gather.new.piece.items t) (ap (λ r. text ++ r) record_same ∙ goes) gathered;
+      within = omega (arith, more, left, long);
+      capacity = c.gather.ensures.capacity;
+      faults = let a = c.packets.invariant.faults in let b = c.in_default.ensures.cause.later in omega arith;
+    }

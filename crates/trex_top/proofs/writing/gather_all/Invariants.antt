@@ -1,0 +1,21 @@
+use Rattle.std.proofs.Common.{◌≡◌, ◌-◌, ◌≤◌, length, take}
+use Rattle.std.specs.Vec.{vec_capacity}
+use Rattle.trex_top.specs.declared.pieces.TheConstants.{PIECE}
+use Rattle.trex_top.specs.Capture.{capture_text}
+use Rattle.trex_top.specs.Pieces.{Gathers}
+use Rattle.trex_top.specs.Ready.{all_of, gone_to}
+use Rattle.trex_top.specs.Steps.{seen}
+use Rattle.trex_top.proofs.writing.gather_all.Given as goal
+
+abbrev pub invariant-packets : goal.invariant-packets
+invariant-packets g l = record {
+  plan : l.progress.plan ≡ l.initial.progress.plan;
+  limit : l.progress.state.limit ≡ l.initial.progress.state.limit;
+  gathered : Gathers g.O.Sink.held l.initial.out l.out l.piece.items (capture_text l.fn.base (take (seen l.progress.state) (all_of l.initial.progress)));
+  within : seen l.progress.state ≤ length (all_of l.initial.progress);
+  capacity : PIECE ≤ vec_capacity l.piece;
+  faults : g.O.Sink.faults l.initial.out ≤ g.O.Sink.faults l.out;
+}
+
+abbrev pub decreases-packets : goal.decreases-packets
+decreases-packets g l = length (all_of l.initial.progress) - seen l.progress.state

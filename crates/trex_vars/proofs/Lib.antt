@@ -1,0 +1,5 @@
+pub mod Drawing
+pub mod Modulo
+pub mod Sound
+pub mod Turning
+pub mod Between

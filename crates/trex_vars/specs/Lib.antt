@@ -1,0 +1,6 @@
+pub mod Variable
+pub mod Value
+pub mod Check
+pub mod Bounds
+pub mod Stand
+pub mod Registers

@@ -1,0 +1,64 @@
+-- The registers that one core keeps for a variable. Own.
+use Rattle.std.specs.Prelude.{◌≡◌, ℕ, ◌+◌, ◌-◌, ◌*◌, ◌/◌, ◌%◌, length, slice_index, Option, None, Some}
+use Rattle.trex_vars.specs.declared.draw.Draw.{Draw}
+use Rattle.trex_vars.specs.declared.course.Course.{Course}
+use Rattle.trex_vars.specs.declared.spec.Op.{Op}
+use Rattle.trex_vars.specs.declared.spec.Op.TheVariants.{Inc, Dec, Random}
+use Rattle.trex_vars.specs.declared.value.VarValue.{VarValue}
+use Rattle.trex_vars.specs.declared.value.VarValue.TheVariants.{One, Pair}
+use Rattle.trex_vars.specs.Check.{fault_of}
+use Rattle.trex_vars.specs.Value.{back, flows}
+use Rattle.trex_vars.specs.Variable.{Variable, Counter, RandLimit, ListOf, Tuple}
+
+-- the course of m values from a first one on: up, down, or none where each value is random
+abbrev pub counter_course : Op → ℕ → ℕ → ℕ → Course
+counter_course Inc m first step = record { first = first; step = step; last = m - 1 }
+counter_course Dec m first step = record { first = first; step = back m 0 step; last = m - 1 }
+counter_course Random m first step = record { first = 0; step = 0; last = 0 }
+
+-- the places that a variable runs through from packet to packet: of its values or of its pairs
+abbrev pub course_of : Variable → Course
+course_of (Counter op size init min max step seed position) = counter_course op (max - min + 1) (init - min) step
+course_of (RandLimit size min max limit seed position) = record { first = 0; step = 0; last = 0 }
+course_of (ListOf op size step values seed position) = counter_course op (length values) 0 step
+course_of (Tuple ip_min ip_max port_min port_max limit) =
+    record { first = 0; step = 1; last = flows ((ip_max - ip_min + 1) * (port_max - port_min + 1)) limit - 1 }
+
+-- the word that a random counter draws at packet n
+abbrev pub counter_draw : Op → ℕ → ℕ → ℕ → Option Draw
+counter_draw Inc seed position n = None
+counter_draw Dec seed position n = None
+counter_draw Random seed position n = Some (record { seed = seed; position = position; number = n })
+
+-- the word that a variable draws at packet n
+abbrev pub draw_at : Variable → ℕ → Option Draw
+draw_at (Counter op size init min max step seed position) n = counter_draw op seed position n
+draw_at (RandLimit size min max limit seed position) n = Some (record { seed = seed; position = position; number = n % limit })
+draw_at (ListOf op size step values seed position) n = counter_draw op seed position n
+draw_at (Tuple ip_min ip_max port_min port_max limit) n = None
+
+-- the place after n steps on a course
+abbrev pub place_at : Course → ℕ → ℕ
+place_at course n = (course.first + n * course.step) % (course.last + 1)
+
+-- which of m values a counter stands at, from its place and its word
+abbrev pub counter_place : Op → ℕ → ℕ → ℕ → ℕ
+counter_place Inc m place word = place
+counter_place Dec m place word = place
+counter_place Random m place word = word % m
+
+-- the value of a variable, from its place and its word
+abbrev pub shown : Variable → ℕ → ℕ → VarValue
+shown (Counter op size init min max step seed position) place word = One (min + counter_place op (max - min + 1) place word)
+shown (RandLimit size min max limit seed position) place word = One (min + word % (max - min + 1))
+shown (ListOf op size step values seed position) place word = One (slice_index values (counter_place op (length values) place word))
+shown (Tuple ip_min ip_max port_min port_max limit) place word =
+    let addresses = ip_max - ip_min + 1 in Pair (ip_min + place % addresses) (port_min + place / addresses)
+
+-- the registers of one of some cores at packet n of a variable
+pub record IsAt (variable : Variable) (cores number place stride last : ℕ) (draw : Option Draw) : Type 0 where
+  pub sound : fault_of variable ≡ None
+  pub place_is : place ≡ place_at (course_of variable) number
+  pub stride_is : stride ≡ cores * (course_of variable).step % (last + 1)
+  pub last_is : last ≡ (course_of variable).last
+  pub draw_is : draw ≡ draw_at variable number

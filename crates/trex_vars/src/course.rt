@@ -1,0 +1,102 @@
+// The places that a variable runs through from packet to packet.
+
+ghost use Rattle.std.specs.Prelude.{◌≡◌, ◌+◌, ◌*◌, ◌<◌, ◌≤◌, ◌^◌, length, None};
+ghost use Rattle.trex_vars.specs.Check.{fault_of};
+ghost use Rattle.trex_vars.specs.Registers.{counter_course, course_of};
+ghost use Rattle.trex_vars.specs.Value.{back, flows};
+ghost use Rattle.trex_vars.specs.Variable.{variable_of};
+
+use crate::spec::{Op, VarSpec};
+
+/// Places from 0 to `last`: the first at packet 0, and how far each packet goes on.
+#[derive(Clone, Copy, PartialEq, Eq, Debug, Drop)]
+pub(crate) struct Course {
+    pub(crate) first: u64,
+    pub(crate) step: u64,
+    pub(crate) last: u64,
+}
+
+// The course of what is random: its values come from its words alone.
+const STILL: Course = Course {
+    first: 0,
+    step: 0,
+    last: 0,
+};
+
+impl Course {
+    /// The course of a variable.
+    pub(crate) fn of(spec: &VarSpec) -> Course
+        requires { fault_of (variable_of spec.now) ≡ None }
+        ensures { result ≡ course_of (variable_of spec.now) }
+    {
+        match spec {
+            VarSpec::Counter {
+                op,
+                init,
+                min,
+                max,
+                step,
+                ..
+            } => {
+                // A random counter may begin below its least value.
+                counter_course(*op, *max - *min, init.saturating_sub(*min), *step)
+            }
+            VarSpec::RandLimit { .. } => STILL,
+            VarSpec::List {
+                op,
+                step,
+                values,
+                ..
+            } => counter_course(*op, values.len() as u64 - 1, 0, *step),
+            VarSpec::Tuple {
+                ip_min,
+                ip_max,
+                port_min,
+                port_max,
+                limit,
+            } => {
+                let addresses = u64::from(*ip_max - *ip_min) + 1;
+                let ports = u64::from(*port_max - *port_min) + 1;
+                Course {
+                    first: 0,
+                    step: 1,
+                    last: flows(addresses * ports, u64::from(*limit)) - 1,
+                }
+            }
+        }
+    }
+}
+
+// the course of a counter
+fn counter_course(op: Op, last: u64, first: u64, step: u64) -> Course
+    ensures { result ≡ counter_course op (last + 1) first step }
+{
+    match op {
+        Op::Inc => Course { first, step, last },
+        Op::Dec => Course {
+            first,
+            step: back(last, step),
+            last,
+        },
+        Op::Random => STILL,
+    }
+}
+
+// the step up that leads where a step down does
+fn back(last: u64, step: u64) -> u64
+    ensures { result ≡ back (last + 1) 0 step }
+{
+    let places = u128::from(last) + 1;
+    ((places - u128::from(step) % places) % places) as u64
+}
+
+// how many pairs come before the first comes again
+fn flows(pairs: u64, limit: u64) -> u64
+    ensures { result ≡ flows pairs limit }
+{
+    if limit == 0 || pairs < limit {
+        pairs
+    } else {
+        limit
+    }
+}

@@ -1,0 +1,97 @@
+// One core's values of a variable, one after another.
+
+ghost use Rattle.std.specs.Prelude.{◌≡◌, ◌+◌, ◌<◌, ◌≤◌, ◌^◌, None};
+ghost use Rattle.trex_vars.specs.Check.{fault_of};
+ghost use Rattle.trex_vars.specs.Value.{value_at};
+ghost use Rattle.trex_vars.specs.Variable.{variable_of};
+
+use crate::course::Course;
+use crate::draw::{draw_at, word_number};
+use crate::shown::value_from;
+use crate::spec::VarSpec;
+use crate::value::VarValue;
+use crate::wheel::Wheel;
+use crate::words::Words;
+use std::marker::Model;
+
+/// The values of a variable at the packets of one of some cores. It is seen as the variable, the number of cores and the number of the packet
+/// at which it stands. It takes no memory.
+#[derive(Drop)]
+pub struct Strided<'p> {
+    spec: &'p VarSpec,
+    cores: u32,
+    number: u64,
+    wheel: Wheel,
+    words: Option<Words>,
+}
+
+impl<'p> Model for Strided<'p> {
+    ghost use Rattle.trex_vars.specs.Stand.{Stand};
+    ghost use Rattle.trex_vars.specs.Registers.{IsAt};
+    ghost use Rattle.trex_vars.specs.Variable.{variable_of};
+
+    ghost Value = { Stand };
+
+    ghost view = { λ s. record { variable = variable_of s.spec.now; cores = s.cores; number = s.number } };
+
+    ghost invariant = { λ s. IsAt (variable_of s.spec.now) s.cores s.number s.wheel.place s.wheel.stride s.wheel.last s.words };
+}
+
+impl<'p> Strided<'p> {
+    /// The values of core `core` of `cores`, from packet number `core` on.
+    pub fn start(spec: &'p VarSpec, core: u32, cores: u32) -> Strided<'p>
+        requires sound { fault_of (variable_of spec.now) ≡ None }
+        requires core { core < cores }
+        requires cores { cores ≤ 64 }
+        ensures { result ≡ record { variable = variable_of spec.now; cores = cores; number = core } }
+    {
+        Strided::at(spec, cores, u64::from(core))
+    }
+
+    fn at(spec: &'p VarSpec, cores: u32, number: u64) -> Strided<'p>
+        requires sound { fault_of (variable_of spec.now) ≡ None }
+        requires number { number < 2 ^ 63 }
+        ensures { result ≡ record { variable = variable_of spec.now; cores = cores; number = number } }
+    {
+        let wheel = Wheel::at(Course::of(spec), number, cores);
+        let words = draw_at(spec, number).map(Words::at);
+        Strided {
+            spec,
+            cores,
+            number,
+            wheel,
+            words,
+        }
+    }
+
+    /// The variable's value at this packet.
+    pub fn value(&self) -> VarValue
+        ensures { result ≡ value_at self.now.variable self.now.number }
+    {
+        let word = match &self.words {
+            Some(words) => words.word(),
+            None => 0,
+        };
+        value_from(self.spec, self.wheel.place(), word)
+    }
+
+    /// Goes on to the core's next packet.
+    pub fn step(&mut self)
+        requires { self.old.number + self.old.cores < 2 ^ 63 }
+        ensures { self.new ≡ record self.old { number = self.old.number + self.old.cores } }
+    {
+        self.number += u64::from(self.cores);
+        self.wheel.turn();
+        if let Some(words) = &mut self.words {
+            words.go_to(word_number(self.spec, self.number));
+        }
+    }
+
+    /// Goes to packet `n`. A random variable takes time logarithmic in the number.
+    pub fn seek(&mut self, n: u64)
+        requires { n < 2 ^ 63 }
+        ensures { self.new ≡ record self.old { number = n } }
+    {
+        *self = Strided::at(self.spec, self.cores, n);
+    }
+}

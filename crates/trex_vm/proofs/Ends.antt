@@ -1,0 +1,134 @@
+-- The ends between which the numbers of operands lie, and what an accepted program has.
+use Rattle.std.proofs.Common.{◌≡◌, ℕ, ◌<◌, ◌≤◌, List, [], ◌∷◌, length, get_or, map, sym, ap, ◌∙◌, arith, Bool, true, false, not, ◌&&◌, nat_le, nat_lt, All, IsTrue}
+use Rattle.std.proofs.lemmas.Bool.{and_parts, or_parts, not-true, leb-true, ltb-false}
+use Rattle.std.proofs.lemmas.List.{get_or-map, length-map}
+use Rattle.std.specs.List.{AllByRecursion, list_any, count_by}
+use Rattle.trex_vars.specs.Variable.{Variable, variable_of}
+use Rattle.trex_vars.specs.Bounds.{least, greatest, IsBetween}
+use Rattle.trex_vars.specs.declared.spec.VarSpec.{VarSpec}
+use Rattle.trex_vars.specs.declared.value.VarValue.{VarValue}
+use Rattle.trex_vars.specs.declared.value.VarValue.TheVariants.{One, Pair}
+use Rattle.trex_vm.specs.declared.instr.Operand.{Operand}
+use Rattle.trex_vm.specs.declared.instr.Part.{Part}
+use Rattle.trex_vm.specs.declared.instr.Part.TheVariants.{Whole, Ip, Port}
+use Rattle.trex_vm.specs.declared.instr.Instr.{Instr}
+use Rattle.trex_vm.specs.declared.instr.Instr.TheVariants.{Write, WriteMask, FixIpv4, FixL4, Trim}
+use Rattle.trex_vm.specs.Write.{part_of, number_in}
+use Rattle.trex_vm.specs.Packet.{trimmed}
+use Rattle.trex_vm.specs.Rules.{least_length, room_of, is_trim, trim_wrong, writes_past, misses_header, touches_shape, accepts}
+use Rattle.trex_vm.specs.Program.{IsFormed, IsProgram, TakesFrom, plan_of}
+
+-- the number that an operand takes from values that a function gives
+pub number_in-map : (f : Variable → VarValue) (vars : List Variable) (from : Operand) (d : Variable) → from.var < length vars
+    → number_in (map f vars) from ≡ part_of from.part (f (get_or vars from.var d))
+number_in-map f vars from d below = ap (part_of from.part) (get_or-map f vars from.var d (One 0) below)
+
+-- the same of variables as they are held in memory
+pub number_in-specs : (f : Variable → VarValue) (vars : List VarSpec) (from : Operand) (d : VarSpec) → from.var < length vars
+    → part_of from.part (f (variable_of (get_or vars from.var d))) ≡ number_in (map f (map variable_of vars)) from
+number_in-specs f vars from d below =
+    ap (λ (v : Variable). part_of from.part (f v)) (sym (get_or-map variable_of vars from.var d (variable_of d) below))
+    ∙ sym (number_in-map f (map variable_of vars) from (variable_of d) (omega (arith, length-map vars variable_of)))
+
+-- the parts of a value lie between those of its ends
+part-between : (part : Part) (low value high : VarValue) → IsBetween low value high → (part_of part low ≤ part_of part value) × (part_of part value ≤ part_of part high)
+part-between Whole (One a) (One b) (One c) between = between
+part-between Ip (One a) (One b) (One c) between = (omega arith, omega arith)
+part-between Port (One a) (One b) (One c) between = (omega arith, omega arith)
+part-between Whole (Pair a x) (Pair b y) (Pair c z) between = (omega arith, omega arith)
+part-between Ip (Pair a x) (Pair b y) (Pair c z) between = between.0
+part-between Port (Pair a x) (Pair b y) (Pair c z) between = between.1
+part-between kind low value high between = absurd between
+
+-- a function gives each of the variables a value between its ends
+abbrev pub AreBetween : (Variable → VarValue) → List Variable → Type 0
+AreBetween f vars = All (λ v. IsBetween (least v) (f v) (greatest v)) vars
+
+number-between : (f : Variable → VarValue) (vars : List Variable) (from : Operand) (d : Variable) → AreBetween f vars → from.var < length vars
+    → (number_in (map least vars) from ≤ number_in (map f vars) from) × (number_in (map f vars) from ≤ number_in (map greatest vars) from)
+number-between f vars from d between below =
+    let v = get_or vars from.var d in
+    let both = part-between from.part (least v) (f v) (greatest v) (between from.var d below) in
+    let low = number_in-map least vars from d below in
+    let here = number_in-map f vars from d below in
+    let high = number_in-map greatest vars from d below in
+    (omega (arith, both.0), omega (arith, both.1))
+
+-- what a trim in its range tells
+trim-tells : (vars : List Variable) (whole : ℕ) (from : Operand) → trim_wrong vars whole (Trim from) ≡ false
+    → (14 ≤ number_in (map least vars) from) × (number_in (map greatest vars) from ≤ whole)
+trim-tells vars whole from fine =
+    let low = number_in (map least vars) from in
+    let high = number_in (map greatest vars) from in
+    let cut = or_parts (nat_lt low 14) (nat_lt whole high) fine in
+    (ltb-false low 14 cut.0, ltb-false whole high cut.1)
+
+-- the packet's length lies from the least packet length to the template's length
+pub trimmed-between : (f : Variable → VarValue) (vars : List Variable) (d : Variable) (instrs : List Instr) (whole : ℕ) → AreBetween f vars
+    → AllByRecursion (TakesFrom (length vars)) instrs → list_any (trim_wrong vars whole) instrs ≡ false
+    → (least_length vars instrs whole ≤ trimmed (map f vars) instrs whole) × (trimmed (map f vars) instrs whole ≤ whole)
+trimmed-between f vars d [] whole between operands fine = (omega arith, omega arith)
+trimmed-between f vars d (Write from at add big ∷ rest) whole between operands fine = trimmed-between f vars d rest whole between operands.1 fine
+trimmed-between f vars d (WriteMask from at cast mask shift add big ∷ rest) whole between operands fine = trimmed-between f vars d rest whole between operands.1 fine
+trimmed-between f vars d (FixIpv4 at ∷ rest) whole between operands fine = trimmed-between f vars d rest whole between operands.1 fine
+trimmed-between f vars d (FixL4 ip header kind ∷ rest) whole between operands fine = trimmed-between f vars d rest whole between operands.1 fine
+trimmed-between f vars d (Trim from ∷ rest) whole between operands fine =
+    let cut = or_parts (trim_wrong vars whole (Trim from)) (list_any (trim_wrong vars whole) rest) fine in
+    let range = trim-tells vars whole from cut.0 in
+    let both = number-between f vars from d between operands.0 in
+    (both.0, omega (arith, both.1, range.1))
+
+-- the least packet length is at least 14
+pub least_length-bound : (vars : List Variable) (instrs : List Instr) (whole : ℕ) → 14 ≤ whole → list_any (trim_wrong vars whole) instrs ≡ false
+    → 14 ≤ least_length vars instrs whole
+least_length-bound vars [] whole long fine = long
+least_length-bound vars (Write from at add big ∷ rest) whole long fine = least_length-bound vars rest whole long fine
+least_length-bound vars (WriteMask from at cast mask shift add big ∷ rest) whole long fine = least_length-bound vars rest whole long fine
+least_length-bound vars (FixIpv4 at ∷ rest) whole long fine = least_length-bound vars rest whole long fine
+least_length-bound vars (FixL4 ip header kind ∷ rest) whole long fine = least_length-bound vars rest whole long fine
+least_length-bound vars (Trim from ∷ rest) whole long fine =
+    (trim-tells vars whole from (or_parts (trim_wrong vars whole (Trim from)) (list_any (trim_wrong vars whole) rest) fine).0).0
+
+-- what an accepted program has
+pub record Accepted (vars : List Variable) (template : List ℕ) (stamped : Bool) (instrs : List Instr) : Type 0 where
+  pub trims : count_by is_trim instrs ≤ 1
+  pub cuts : list_any (trim_wrong vars (length template)) instrs ≡ false
+  pub stamp : (stamped && nat_lt (least_length vars instrs (length template)) 30) ≡ false
+  pub places : list_any (writes_past (room_of (least_length vars instrs (length template)) stamped)) instrs ≡ false
+  pub headers : list_any (misses_header template (room_of (least_length vars instrs (length template)) stamped)) instrs ≡ false
+  pub shape : list_any (touches_shape instrs) instrs ≡ false
+
+six_parts : (a b c d e f : Bool) → (a && not b && not c && not d && not e && not f) ≡ true
+    → (a ≡ true) × (b ≡ false) × (c ≡ false) × (d ≡ false) × (e ≡ false) × (f ≡ false)
+six_parts a b c d e f all =
+    let five = and_parts (a && not b && not c && not d && not e) (not f) all in
+    let four = and_parts (a && not b && not c && not d) (not e) five.0 in
+    let three = and_parts (a && not b && not c) (not d) four.0 in
+    let two = and_parts (a && not b) (not c) three.0 in
+    let one = and_parts a (not b) two.0 in
+    (one.0, not-true b one.1, not-true c two.1, not-true d three.1, not-true e four.1, not-true f five.1)
+
+pub accepts-tells : (vars : List Variable) (template : List ℕ) (stamped : Bool) (instrs : List Instr) → accepts vars template stamped instrs ≡ true
+    → Accepted vars template stamped instrs
+accepts-tells vars template stamped instrs accepted =
+    let all = six_parts (nat_le (count_by is_trim instrs) 1) _ _ _ _ _ accepted in
+    record { trims = leb-true (count_by is_trim instrs) 1 all.0; cuts = all.1; stamp = all.2; places = all.3; headers = all.4; shape = all.5 }
+
+pub stamp-tells : (stamped : Bool) (shortest : ℕ) → (stamped && nat_lt shortest 30) ≡ false → IsTrue stamped → 30 ≤ shortest
+stamp-tells true shortest fine is = ltb-false shortest 30 fine
+stamp-tells false shortest fine is = absurd (cc)
+
+-- what is accepted is a program
+pub accepted-program : (instrs : List Instr) (vars : List Variable) (template : List ℕ) (stamped : Bool) → 14 ≤ length template → length template ≤ 9216
+    → All IsFormed instrs → least_length vars instrs (length template) ≤ length template → Accepted vars template stamped instrs
+    → IsProgram (plan_of instrs vars template stamped)
+accepted-program instrs vars template stamped long short formed cut known = record {
+  long = least_length-bound vars instrs (length template) long known.cuts;
+  stamp = stamp-tells stamped (least_length vars instrs (length template)) known.stamp;
+  cut = cut;
+  short = short;
+  trims = known.trims;
+  formed = formed;
+  places = known.places;
+  shape = known.shape;
+}

@@ -1,0 +1,28 @@
+// The laws of programs.
+
+ghost use Rattle.std.specs.Prelude.{◌≡◌, ℕ, ◌≤◌, Bool, true, List, Option, is_some, length, map};
+ghost use Rattle.trex_vars.specs.Variable.{Variable};
+ghost use Rattle.trex_vars.specs.Value.{value_at};
+ghost use Rattle.trex_vm.specs.declared.instr.Instr.{Instr as AnInstr};
+ghost use Rattle.trex_stamp.specs.declared.header.Stamp.{Stamp as AStamp};
+ghost use Rattle.trex_vm.specs.Packet.{packet};
+ghost use Rattle.trex_vm.specs.Rules.{accepts};
+ghost use Rattle.trex_vm.specs.Program.{AreOperandsOf, AreSound, AreValuesOf, IsTemplateOf, plan_of};
+
+use trex_vars::values_lie_between;
+
+/// A program that is accepted is meant for its template, and for the values of its variables at each packet number.
+pub fn programs_fit()
+    ensures template { (instrs : List AnInstr) (vars : List Variable) (template : List ℕ) (stamped : Bool)
+        → accepts vars template stamped instrs ≡ true → IsTemplateOf (plan_of instrs vars template stamped) template }
+    ensures values { (instrs : List AnInstr) (vars : List Variable) (template : List ℕ) (stamped : Bool) (n : ℕ)
+        → AreOperandsOf vars instrs → AreSound vars → accepts vars template stamped instrs ≡ true
+        → AreValuesOf (plan_of instrs vars template stamped) (map (λ v. value_at v n) vars) }
+    // A packet is no longer than its template.
+    ensures short { (instrs : List AnInstr) (vars : List Variable) (template : List ℕ) (stamp : Option AStamp) (n : ℕ)
+        → AreOperandsOf vars instrs → AreSound vars → accepts vars template (is_some stamp) instrs ≡ true
+        → 14 ≤ length template → length template ≤ 9216
+        → length (packet instrs (map (λ v. value_at v n) vars) stamp template) ≤ length template }
+{
+    values_lie_between();
+}

@@ -1,0 +1,257 @@
+// Whether the instructions of a stream are accepted for its variables and its template: one test a rule.
+
+ghost use Rattle.std.specs.Prelude.{◌≡◌, ◌+◌, ◌^◌, ◌<◌, nat_lt, nat_le, count_by, All, length, map, slice_index};
+ghost use Rattle.std.specs.List.{list_any};
+ghost use Rattle.trex_vars.specs.Variable.{variable_of};
+ghost use Rattle.trex_vars.specs.Bounds.{least, greatest};
+ghost use Rattle.trex_vm.specs.Write.{number_in};
+ghost use Rattle.trex_vm.specs.Cover.{writes_at, writes_size, writes_byte};
+ghost use Rattle.trex_vm.specs.Rules.{least_length, room_of, is_trim, trim_wrong, writes_past, has_ipv4, misses_header, header_place, touches, touches_shape, accepts};
+ghost use Rattle.trex_vm.specs.Program.{TakesFrom};
+
+use crate::fix::{HEADER_SUM, PROTOCOL, least_segment, protocol_of, sum_place, words_to_bytes};
+use crate::instr::{Instr, Operand};
+use crate::write::part_of;
+use trex_vars::VarSpec;
+
+const VERSION: u8 = 4;
+
+const LEAST_HEADER: usize = 20;
+
+const LEAST_PACKET: u64 = 14;
+
+const LEAST_STAMPED: usize = 30;
+
+const STAMP_LEN: usize = 16;
+
+// the least number that an operand takes
+fn least_in(vars: &[VarSpec], from: Operand) -> u64
+    requires { from.var < length vars.now }
+    ensures { result ≡ number_in (map least (map variable_of vars.now)) from }
+{
+    part_of(from.part, vars[from.var].least())
+}
+
+// the greatest number that an operand takes
+fn greatest_in(vars: &[VarSpec], from: Operand) -> u64
+    requires { from.var < length vars.now }
+    ensures { result ≡ number_in (map greatest (map variable_of vars.now)) from }
+{
+    part_of(from.part, vars[from.var].greatest())
+}
+
+/// The length in bytes of the shortest packet: the least number of the trim, or the template's length where there is none.
+pub fn least_length(vars: &[VarSpec], instrs: &[Instr], template: usize) -> usize
+    requires { All (TakesFrom (length vars.now)) instrs.now }
+    ensures { result ≡ least_length (map variable_of vars.now) instrs.now template }
+{
+    for instr in instrs {
+        if let Instr::Trim { from } = *instr {
+            return least_in(vars, from) as usize;
+        }
+    }
+    template
+}
+
+/// The bytes of the shortest packet in front of its latency header.
+pub fn room_of(shortest: usize, stamped: bool) -> usize
+    ensures { result ≡ room_of shortest stamped }
+{
+    if stamped {
+        shortest.saturating_sub(STAMP_LEN)
+    } else {
+        shortest
+    }
+}
+
+/// Whether an instruction cuts the packet.
+pub fn is_trim(instr: &Instr) -> bool
+    ensures { result ≡ is_trim instr.now }
+{
+    matches!(*instr, Instr::Trim { .. })
+}
+
+/// Whether an instruction is a trim whose least number is below 14, or whose greatest is above the template's length in bytes.
+pub fn trim_wrong(vars: &[VarSpec], template: usize, instr: &Instr) -> bool
+    requires { TakesFrom (length vars.now) instr.now }
+    ensures { result ≡ trim_wrong (map variable_of vars.now) template instr.now }
+{
+    match *instr {
+        Instr::Trim { from } => {
+            least_in(vars, from) < LEAST_PACKET || greatest_in(vars, from) > template as u64
+        }
+        _ => false,
+    }
+}
+
+// whether so many bytes from a place on end after the room
+fn ends_after(room: usize, at: usize, size: u8) -> bool
+    ensures { result ≡ nat_lt room (at + size) }
+{
+    (room as u128) < at as u128 + u128::from(size)
+}
+
+/// Whether an instruction is a write that ends after the room.
+pub fn writes_past(room: usize, instr: &Instr) -> bool
+    ensures { result ≡ writes_past room instr.now }
+{
+    match *instr {
+        Instr::Write { from, at, .. } => ends_after(room, at, from.size),
+        Instr::WriteMask { at, cast, .. } => ends_after(room, at, cast),
+        _ => false,
+    }
+}
+
+// whether so many bytes from a place on lie within a room
+fn is_within(at: usize, size: usize, room: usize) -> bool
+    ensures { result ≡ nat_le (at + size) room }
+{
+    at <= room && size <= room - at
+}
+
+// the byte at a place, or 0 past the last
+fn byte_at(bytes: &[u8], at: usize) -> u8
+    ensures { result ≡ slice_index bytes.now at }
+{
+    bytes.get(at).copied().unwrap_or(0)
+}
+
+// whether an IPv4 header stands at a place
+fn has_ipv4(bytes: &[u8], room: usize, at: usize) -> bool
+    ensures { result ≡ has_ipv4 bytes.now room at }
+{
+    let first = byte_at(bytes, at);
+    let header = words_to_bytes(first);
+    is_within(at, LEAST_HEADER, room)
+        && first / 16 == VERSION
+        && header >= LEAST_HEADER
+        && is_within(at, header, room)
+}
+
+/// Whether an instruction is a fix that has no header to fix within the room: an IPv4 header of version 4 and at least 20 bytes; for a
+/// segment also the header's length as given, the protocol 6 or 17, and the segment's own header.
+pub fn misses_header(template: &[u8], room: usize, instr: &Instr) -> bool
+    ensures { result ≡ misses_header template.now room instr.now }
+{
+    match *instr {
+        Instr::FixIpv4 { at } => !has_ipv4(template, room, at),
+        Instr::FixL4 { ip, header, kind } => {
+            !(has_ipv4(template, room, ip)
+                && header == words_to_bytes(byte_at(template, ip))
+                && byte_at(template, ip + PROTOCOL) == protocol_of(kind)
+                && is_within(ip, header + least_segment(kind), room))
+        }
+        _ => false,
+    }
+}
+
+// the first byte that an instruction writes
+fn writes_at(instr: &Instr) -> u128
+    ensures value { result ≡ writes_at instr.now }
+    ensures small { result < 2 ^ 66 }
+{
+    match *instr {
+        Instr::Write { at, .. } | Instr::WriteMask { at, .. } => at as u128,
+        Instr::FixIpv4 { at } => at as u128 + HEADER_SUM as u128,
+        Instr::FixL4 { ip, header, kind } => ip as u128 + header as u128 + sum_place(kind) as u128,
+        Instr::Trim { .. } => 0,
+    }
+}
+
+// how many bytes an instruction writes
+fn writes_size(instr: &Instr) -> u8
+    ensures { result ≡ writes_size instr.now }
+{
+    match *instr {
+        Instr::Write { from, .. } => from.size,
+        Instr::WriteMask { cast, .. } => cast,
+        Instr::FixIpv4 { .. } | Instr::FixL4 { .. } => 2,
+        Instr::Trim { .. } => 0,
+    }
+}
+
+// whether an instruction writes a byte
+fn writes_byte(instr: &Instr, byte: u128) -> bool
+    ensures { result ≡ writes_byte instr.now byte }
+{
+    let at = writes_at(instr);
+    at <= byte && byte < at + u128::from(writes_size(instr))
+}
+
+// whether an instruction writes the first byte or the protocol of the header at a place
+fn touches(instr: &Instr, other: &Instr) -> bool
+    ensures { result ≡ touches instr.now (header_place other.now) }
+{
+    match *other {
+        Instr::FixIpv4 { at: ip } | Instr::FixL4 { ip, .. } => {
+            writes_byte(instr, ip as u128) || writes_byte(instr, ip as u128 + PROTOCOL as u128)
+        }
+        _ => false,
+    }
+}
+
+/// Whether an instruction writes byte 0 or byte 9 of a header that a fix of the list names: its version and length, or its protocol. A fix
+/// writes its checksum field.
+pub fn touches_shape(instrs: &[Instr], instr: &Instr) -> bool
+    ensures { result ≡ touches_shape instrs.now instr.now }
+{
+    instrs.iter().any(|other| touches(instr, other))
+}
+
+// whether a trim of the instructions is out of its range
+fn any_trim_wrong(vars: &[VarSpec], template: usize, instrs: &[Instr]) -> bool
+    requires { All (TakesFrom (length vars.now)) instrs.now }
+    ensures { result ≡ list_any (trim_wrong (map variable_of vars.now) template) instrs.now }
+{
+    for instr in instrs {
+        if trim_wrong(vars, template, instr) {
+            return true;
+        }
+    }
+    false
+}
+
+fn trims(instrs: &[Instr]) -> usize
+    ensures { result ≡ count_by is_trim instrs.now }
+{
+    instrs.iter().filter(|instr| is_trim(instr)).count()
+}
+
+fn any_writes_past(room: usize, instrs: &[Instr]) -> bool
+    ensures { result ≡ list_any (writes_past room) instrs.now }
+{
+    instrs.iter().any(|instr| writes_past(room, instr))
+}
+
+fn any_misses_header(template: &[u8], room: usize, instrs: &[Instr]) -> bool
+    ensures { result ≡ list_any (misses_header template.now room) instrs.now }
+{
+    instrs
+        .iter()
+        .any(|instr| misses_header(template, room, instr))
+}
+
+fn any_touches_shape(instrs: &[Instr]) -> bool
+    ensures { result ≡ list_any (touches_shape instrs.now) instrs.now }
+{
+    instrs.iter().any(|instr| touches_shape(instrs, instr))
+}
+
+/// Whether the instructions break no rule.
+pub(crate) fn accepts(vars: &[VarSpec], template: &[u8], stamped: bool, instrs: &[Instr]) -> bool
+    requires { All (TakesFrom (length vars.now)) instrs.now }
+    ensures { result ≡ accepts (map variable_of vars.now) template.now stamped instrs.now }
+{
+    if trims(instrs) > 1 || any_trim_wrong(vars, template.len(), instrs) {
+        return false;
+    }
+    let shortest = least_length(vars, instrs, template.len());
+    if stamped && shortest < LEAST_STAMPED {
+        return false;
+    }
+    let room = room_of(shortest, stamped);
+    if any_writes_past(room, instrs) || any_misses_header(template, room, instrs) {
+        return false;
+    }
+    !any_touches_shape(instrs)
+}
