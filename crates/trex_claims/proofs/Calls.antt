@@ -1,5 +1,5 @@
 -- What the calls that take two steps come to.
-use Rattle.std.proofs.Common.{◌≡◌, ◌⊎◌, ℕ, ◌+◌, ◌-◌, ◌<◌, List, [], ◌∷◌, length, refl, sym, ap, subst, ◌∙◌, arith, Bool, true, false, Option, None, Some, get_or-set_same}
+use Rattle.std.proofs.Common.{◌≡◌, ◌⊎◌, ℕ, ◌+◌, ◌-◌, ◌%◌, ◌<◌, List, [], ◌∷◌, length, refl, sym, ap, subst, ◌∙◌, arith, Bool, true, false, Option, None, Some, get_or-set_same}
 use Rattle.atomic_table.specs.Table.{Me, Allows, rest}
 use Rattle.trex_claims.specs.declared.view.What.{What}
 use Rattle.trex_claims.specs.declared.view.What.TheVariants.{Empty, Out, Full}
@@ -7,9 +7,10 @@ use Rattle.trex_claims.specs.declared.view.Stand.{Stand}
 use Rattle.trex_claims.specs.declared.view.View.{View}
 use Rattle.trex_claims.specs.Views.{IsFirst, IsEmpty, IsFull}
 use Rattle.trex_claims.specs.Board.{IsPiece, Rule}
-use Rattle.trex_claims.specs.Moves.{stand_at, rested_if, rested, restood, out, FitsAs, Reached, stand_of, Homed}
+use Rattle.trex_claims.specs.Moves.{PutBack, stand_at, rested_if, rested, restood, out, FitsAs, Reached, stand_of, Homed}
 use Rattle.trex_claims.proofs.Totals.{set_twice}
 use Rattle.trex_claims.proofs.Rests.{length_after}
+use Rattle.trex_claims.proofs.Puts.{puts_back}
 use Rattle.trex_claims.proofs.Slots.{reaches, homes, rested_what}
 
 pub same_core : (c : ℕ) → c + 1 - 1 ≡ c
@@ -77,14 +78,14 @@ module _ {T : Type 0} (core turns : T → ℕ) (stem : T → List (List ℕ)) (s
     pub taken_is : reached ≡ (restood u c (out t), (c, r.slot) ∷ [])
     taken_is = r.seat ∙ ap (λ l. let m : Me (Option T) View = (restood u c (out t), (c, r.slot) ∷ l) in m) empty
 
-    module _ (slot : Option T) (swapped after : Me (Option T) View) (is : swapped ≡ (reached.0, (c, slot) ∷ rest reached.1)) where
+    module _ (slot : Option T) (swapped : Me (Option T) View) (is : swapped ≡ (reached.0, (c, slot) ∷ rest reached.1)) where
       -- the seat after the exchange
       pub swapped_is : swapped ≡ (restood u c (out t), (c, slot) ∷ [])
       swapped_is = is ∙ ap (λ (m : Me (Option T) View). let n : Me (Option T) View = (m.0, (c, slot) ∷ rest m.1) in n) taken_is
 
       -- the seat after both steps
-      pub homed_is : Homed core turns stem settled (c + 1 - 1) swapped after → after ≡ (restood u c (stand_of core turns stem settled t ((c, slot) ∷ [])), [])
-      homed_is h =
+      pub homed_is : (after : Me (Option T) View) → Homed core turns stem settled (c + 1 - 1) swapped after → after ≡ (restood u c (stand_of core turns stem settled t ((c, slot) ∷ [])), [])
+      homed_is after h =
           let here : Homed core turns stem settled c swapped after = subst (λ n. Homed core turns stem settled n swapped after) (same_core c) h in
           let long = rested_length me.0.round.running me.0 in
           let cores = r.cores in
@@ -98,6 +99,18 @@ module _ {T : Type 0} (core turns : T → ℕ) (stem : T → List (List ℕ)) (s
           ∙ ap (λ x. let n : Me (Option T) View = (restood mid c x, []) in n) known
           ∙ ap (λ l. let n : Me (Option T) View = (record u { round = record u.round { stands = l } }, []) in n) (set_twice u.round.stands c (out t) new)
 
+      -- no round is open then
+      pub homed_off : (after : Me (Option T) View) → Homed core turns stem settled (c + 1 - 1) swapped after → after.0.round.running ≡ false
+      homed_off after h = ap (λ (m : Me (Option T) View). m.0.round.running) (homed_is after h) ∙ rested_off me.0.round.running me.0 refl
+
+      -- the second step may be taken
+      pub gives_back : (id : ℕ) → IsFirst me.0.role → ((piece : T) → slot ≡ Some piece → core piece ≡ c)
+          → Allows (Rule core turns stem settled) slots id swapped (c + 1) (λ n. n) (λ found. Homed core turns stem settled (c + 1 - 1) swapped)
+      gives_back id is_first its_core =
+          let role : swapped.0.role ≡ me.0.role = ap (λ (m : Me (Option T) View). m.0.role) swapped_is ∙ rested_role me.0.round.running me.0 in
+          let off : swapped.0.round.running ≡ false = ap (λ (m : Me (Option T) View). m.0.round.running) swapped_is ∙ rested_off me.0.round.running me.0 refl in
+          last_step slots id swapped c slot (subst IsFirst (sym role) is_first) off below (ap (λ (m : Me (Option T) View). m.1) swapped_is) its_core
+
     -- what the exchange finds
     pub found_is : (result : Option T) → reached.1 ≡ (c, result) ∷ rest reached.1 → IsFull (stand_at me.0 c).what
         → (piece : T) × (result ≡ Some piece) × IsPiece core turns stem settled c t 0 piece
@@ -106,3 +119,13 @@ module _ {T : Type 0} (core turns : T → ℕ) (stem : T → List (List ℕ)) (s
         let held = ap (λ (m : Me (Option T) View). m.1) taken_is in
         let same : result ≡ r.slot = ap (slot_of {S = T}) (sym is ∙ held) in
         (known.0, same ∙ known.1, known.2)
+
+  -- the piece may be put back, where the slot was taken
+  pub puts_taken : (slots id : ℕ) (me swapped : Me (Option T) View) (c : ℕ) (piece : T) → me.0.claim ≡ c ∷ [] → c < slots → me.1 ≡ (c, None) ∷ []
+      → IsPiece core turns stem settled c (stand_at me.0 c) 1 piece → swapped ≡ (me.0, (c, Some piece) ∷ rest me.1)
+      → Allows (Rule core turns stem settled) slots id swapped (c + 1) (λ n. (n + 1) % 18446744073709551616) (λ found. PutBack swapped)
+  puts_taken slots id me swapped c piece claim below taken is_piece is =
+      let view : swapped.0 ≡ me.0 = ap (λ (m : Me (Option T) View). m.0) is in
+      let has : swapped.1 ≡ (c, Some piece) ∷ [] = ap (λ (m : Me (Option T) View). m.1) is ∙ ap (λ l. (c, Some piece) ∷ rest l) taken in
+      let ready = subst (λ (v : View). IsPiece core turns stem settled c (stand_at v c) 1 piece) (sym view) is_piece in
+      puts_back core turns stem settled slots id swapped c piece (ap (λ (v : View). v.claim) view ∙ claim) below has ready

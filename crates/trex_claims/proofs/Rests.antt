@@ -153,6 +153,14 @@ module _ {T : Type 0} (core turns : T → ℕ) (stem : T → List (List ℕ)) (s
         refl,
       )
 
+  -- a core under another name
+  shelf_moved : (r : Round) (x : ℕ) (y : Stand) (claims puts : ℕ) (words : List ℕ) (at : maybe.Option (maybe.Option (Option T))) (c : ℕ) (t : Stand) (home : maybe.Option (Option T))
+      → x ≡ c → t ≡ y → claims ≡ 0 → puts ≡ 0 → at ≡ some home → Shelved core turns stem settled r c t 0 0 (get_or words (c + 1) 0) (some home)
+      → Shelved core turns stem settled r x y claims puts (get_or words (x + 1) 0) at
+  shelf_moved r x y claims puts words at c t home core_is stand_is no_claims no_puts home_is shelf =
+      subst (λ (g : ℕ × Stand × ℕ × ℕ × maybe.Option (maybe.Option (Option T))). Shelved core turns stem settled r g.0 g.1 g.2 g.3 (get_or words (g.0 + 1) 0) g.4)
+      (λ i. (sym core_is i, stand_is i, sym no_claims i, sym no_puts i, sym home_is i)) shelf
+
   -- while no round is open, what is known of a core changes with its slot
   module _ (s : State (Option T) View) (v : View) (led : Led v s.views) (k : Kept core turns stem settled v.round v.told v.outs s) (off : v.round.running ≡ false)
       (alone : v.outs ≡ 0) (c : ℕ) (t : Stand) (home : maybe.Option (Option T)) (c_below : c < length v.round.stands)
@@ -190,9 +198,8 @@ module _ {T : Type 0} (core turns : T → ℕ) (stem : T → List (List ℕ)) (s
               ap (get_elem? (set s.homes c home)) h.0 ∙ set_here s.homes c home (let n = k.homes in let l = c_below in omega arith) in
               let held_now : total (held x) (set s.views 0 u) ≡ 0 = omega arith in
               let done_now : total (done x) (set s.views 0 u) ≡ 0 = omega arith in
-              let moved : Shelved core turns stem settled v.round x y (total (held x) (set s.views 0 u)) (total (done x) (set s.views 0 u)) (get_or s.words (x + 1) 0) (get_elem? (set s.homes c home) x) =
-              subst (λ (g : ℕ × Stand × ℕ × ℕ × maybe.Option (maybe.Option (Option T))). Shelved core turns stem settled v.round g.0 g.1 g.2 g.3 (get_or s.words (g.0 + 1) 0) g.4)
-              (λ i. (sym h.0 i, h.1 i, sym held_now i, sym done_now i, sym here i)) shelf in
+              let moved = shelf_moved v.round x y (total (held x) (set s.views 0 u)) (total (done x) (set s.views 0 u)) s.words (get_elem? (set s.homes c home) x) c t home
+              h.0 h.1 held_now done_now here shelf in
               record { counted = moved.counted; bounded = moved.bounded; there = moved.there; away = moved.away; empty = moved.empty })
               (λ h.
               let moved = untouched core turns stem settled v.round x y _ _ _ _ (total (held x) (set s.views 0 u)) (total (done x) (set s.views 0 u)) (get_or s.words (x + 1) 0) (get_elem? (set s.homes c home) x)

@@ -13,7 +13,7 @@ use atomic_table::Table;
 use std::alloc::Global;
 use trex_io::Memory;
 
-/// A seat of a board. It takes no memory.
+/// A seat of a board, which takes no memory. In clauses `me.0` is what it knows, and `me.1` has the slots that are out with it.
 pub type Seat<T> = atomic_table::Seat<Option<T>, View>;
 
 /// A board with a slot for the piece of each core. Threads share it by reference, each with a seat of its own.
@@ -39,6 +39,13 @@ impl<T: Piece> Board<T> {
         let count = cores as usize;
         let (table, seat) = Table::vacant(alloc, &words[..count + 1], count, &cores)?;
         Ok((Board { table }, seat))
+    }
+
+    /// How many cores it has.
+    pub fn cores(&self) -> usize
+        ensures { result ≡ cores_of self.now }
+    {
+        self.table.slot_count()
     }
 
     /// Opens a round, and answers its base.

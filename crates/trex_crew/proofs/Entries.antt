@@ -2,7 +2,7 @@
 use Rattle.std.proofs.Common.{◌≡◌, ℕ, ◌+◌, List, [], ◌∷◌, ◌++◌, ap, ◌∙◌, arith, Option, None, Some, count_by}
 use Rattle.std.specs.Prelude.{◌==◌, ◌&&◌, if◌then◌else◌}
 use Rattle.std.specs.List.{AllByRecursion}
-use Rattle.std.proofs.lemmas.List.Sums.{sum_by_push, sum_by-append}
+use Rattle.std.proofs.lemmas.List.Sums.{sum_by_push, sum_by-append, sum_by-cons}
 use Rattle.trex_crew.specs.Gates.{HasEntered, is_entry, times, Tells, Entered}
 
 -- one entry more
@@ -80,4 +80,21 @@ entered_beside {T = T} entries core_of works round used used' others entered tol
           let new = sum_by-append (λ gate. times r c (entries gate)) used' others in
           let e = a.1 r c in
           omega (arith, old, new, e),
+    )
+
+-- one gate, entered for one core more
+pub entered_next : {G : Type 0} (entries : G → Option (List (ℕ × ℕ))) (cores : List ℕ) (core round : ℕ) (a b c : G)
+    → Entered entries (λ n. n) cores round (a ∷ []) (b ∷ []) → HasEntered (entries b) (entries c) round core
+    → Entered entries (λ n. n) (core ∷ cores) round (a ∷ []) (c ∷ [])
+entered_next entries cores core round a b c before entered (t, u) =
+    let told = times_entered (entries b) (entries c) round core entered t in
+    let earlier = before (told, tt) in (
+      earlier.0,
+      λ r k.
+          let now = times_more (entries b) (entries c) round core r k entered t in
+          let before_it = earlier.1 r k in
+          let sums : count_by (λ (n : ℕ). (round == r) && (n == k)) (core ∷ cores)
+          ≡ (if (round == r) && (core == k) then 1 else 0) + count_by (λ (n : ℕ). (round == r) && (n == k)) cores =
+          sum_by-cons (λ (n : ℕ). if (round == r) && (n == k) then 1 else 0) core cores in
+          omega (arith, now, before_it, sums),
     )

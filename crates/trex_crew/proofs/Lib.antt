@@ -1,2 +1,7 @@
 pub mod Works
 pub mod Entries
+pub mod Drawing
+pub mod Lent
+pub mod Fetched
+pub mod Turned
+pub mod Same

@@ -1,12 +1,8 @@
 -- The works of a crew. Own.
-use Rattle.std.specs.Prelude.{◌≡◌, ℕ, ◌+◌, List, [], ◌∷◌}
+use Rattle.std.specs.Prelude.{List}
 use Rattle.trex_crew.specs.declared.crew.Crew.{Crew}
+pub use Rattle.trex_crew.specs.Orders.{AreInOrder}
 
 -- the works, in order of core
 abbrev pub works_of : {T : Type 0} → Crew T → List T
 works_of crew = crew.works.items
-
--- each work has the core that is its place, where the first has that of a place
-abbrev pub AreInOrder : {T : Type 0} → (T → ℕ) → ℕ → List T → Type 0
-AreInOrder core_of place [] = Unit {0}
-AreInOrder core_of place (work ∷ works) = (core_of work ≡ place) × AreInOrder core_of (place + 1) works

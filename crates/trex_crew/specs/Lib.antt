@@ -1,3 +1,6 @@
 pub mod Gates
 pub mod Crews
 pub mod Lending
+pub mod Workers
+pub mod Rounds
+pub mod Orders

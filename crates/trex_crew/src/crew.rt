@@ -1,37 +1,54 @@
 // A crew: the works of all cores, and its rounds.
 
-ghost use Rattle.std.specs.Prelude.{◌≡◌, ◌+◌, ◌<◌, ◌≤◌, ◌^◌, [], length, map, vec_len, IfOk, OnOk};
+ghost use Rattle.std.specs.Prelude.{◌≡◌, ◌+◌, ◌<◌, ◌≤◌, ◌^◌, [], true, length, map, vec_len, IfOk, OnOk};
 ghost use Rattle.std.specs.List.{AllByRecursion};
 ghost use Rattle.std.specs.Borrow.{sem};
+ghost use Rattle.std.proofs.Props.{props};
+ghost use Rattle.trex_claims.specs.Boards.{board_id, cores_of};
 ghost use Rattle.trex_crew.specs.Gates.{Entered};
-ghost use Rattle.trex_crew.specs.Crews.{AreInOrder, works_of};
+ghost use Rattle.trex_crew.specs.Orders.{AreInOrder};
+ghost use Rattle.trex_crew.specs.Rounds.{IsIdle, IsFirst-prop, IsEmpty-prop};
 
-use crate::gate::Gate;
-use crate::turns::{turn_alone, turn_by_gates};
+use crate::gate::{Gate, Open};
+use crate::rounds::round_on_board;
+use crate::turns::turn_by_one;
 use std::alloc::Global;
 use std::thread::Threads;
-use trex_claims::Piece;
+use trex_claims::{Board, Piece, Seat};
 use trex_io::Memory;
 
 /// The works of all cores, each of which takes one turn a round.
 #[derive(Drop)]
 pub struct Crew<T: Piece> {
     works: Vec<T>,
+    // on which the works are claimed in a round; all slots are empty between two rounds
+    board: Board<T>,
+    seat: Seat<T>,
     rounds: u64,
+    ghost seated: { seat.table_id ≡ board_id board },
+    ghost idle: { IsIdle (cores_of board) seat.me } by { Prim.hlevel (props, IsFirst-prop, IsEmpty-prop) },
+    ghost counted: { seat.me.0.round.rounds ≤ rounds },
 }
 
 impl<T: Piece> Crew<T> {
+    ghost use Rattle.trex_crew.specs.Crews.{works_of};
     ghost use Rattle.trex_crew.specs.Lending.{lends_works};
 
     /// A crew of 1 to 64 works, of which work i has core i. Before the first round.
-    pub fn new(_alloc: Global, works: Vec<T>) -> Result<Crew<T>, Memory>
+    pub fn new(alloc: Global, works: Vec<T>) -> Result<Crew<T>, Memory>
         requires one { 1 ≤ vec_len works }
         requires few { vec_len works ≤ 64 }
         requires cores { AreInOrder T.core_of 0 works.items }
         ensures works { IfOk result (λ crew. works_of crew ≡ works.items) }
         ensures rounds { IfOk result (λ crew. crew.rounds ≡ 0) }
     {
-        Ok(Crew { works, rounds: 0 })
+        let (board, seat) = Board::new(alloc, works.len() as u32)?;
+        Ok(Crew {
+            works,
+            board,
+            seat,
+            rounds: 0,
+        })
     }
 
     /// Every work takes one turn, by as many workers in threads as there are gates, but at most one a core. Before the turn of core c
@@ -43,7 +60,29 @@ impl<T: Piece> Crew<T> {
         ensures rounds { self.new.rounds ≡ self.old.rounds + 1 }
         ensures gates { 0 < length gates.old → Entered G.entries T.core_of (works_of self.old) self.old.rounds gates.old gates.new }
     {
-        round(rt, &mut self.works, gates, self.rounds);
+        if gates.is_empty() {
+            self.turn_all(rt, &mut [Open]);
+        } else {
+            self.turn_all(rt, gates);
+        }
+    }
+
+    // Every work takes one turn. Where the caller changed which works there are, they aren't in the order of the board, and one worker
+    // does all.
+    fn turn_all<R: Threads + Sync, G: Gate>(&mut self, rt: &R, gates: &mut [G])
+        requires gates { 0 < length gates.old }
+        requires rounds { self.old.rounds < 2 ^ 40 }
+        requires turns { AllByRecursion (λ work. T.turns_of work < 2 ^ 63) (works_of self.old) }
+        ensures works { works_of self.new ≡ map T.turned (works_of self.old) }
+        ensures rounds { self.new.rounds ≡ self.old.rounds + 1 }
+        ensures gates { Entered G.entries T.core_of (works_of self.old) self.old.rounds gates.old gates.new }
+    {
+        if self.works.len() == self.board.cores() && is_in_order(&self.works) {
+            let works = &mut self.works;
+            round_on_board(rt, &self.board, &mut self.seat, works, gates, self.rounds);
+        } else {
+            turn_by_one(&mut self.works, &mut gates[0], self.rounds);
+        }
         self.rounds += 1;
     }
 
@@ -56,7 +95,7 @@ impl<T: Piece> Crew<T> {
 
     /// The works, to be changed.
     pub fn works_mut(&mut self) -> &mut [T]
-        ensures* lends { sem 𝓛 (lends_works T.row self.entry result) }
+        ensures* lends { sem 𝓛 (lends_works T.row T.Piece self.entry result) }
         ensures works { result.now ≡ works_of self.old }
     {
         &mut self.works
@@ -70,32 +109,16 @@ impl<T: Piece> Crew<T> {
     }
 }
 
-/// One turn of each work, by the gates where there are some.
-fn round<R: Threads + Sync, T: Piece, G: Gate>(rt: &R, works: &mut [T], gates: &mut [G], round: u64)
-    requires { AllByRecursion (λ work. T.turns_of work < 2 ^ 63) works.old }
-    ensures works { works.new ≡ map T.turned works.old }
-    ensures gates { 0 < length gates.old → Entered G.entries T.core_of works.old round gates.old gates.new }
+// Each work has the core that is its place, and there is one.
+fn is_in_order<T: Piece>(works: &[T]) -> bool
+    ensures order { result ≡ true → AreInOrder T.core_of 0 works.now }
+    ensures some { result ≡ true → 0 < length works.now }
+    ensures few { result ≡ true → length works.now ≤ 64 }
 {
-    if gates.is_empty() || works.is_empty() {
-        turn_alone(works);
-    } else {
-        turn_by_some(rt, works, gates, round);
+    for (place, work) in works.iter().enumerate() {
+        if work.core() as usize != place {
+            return false;
+        }
     }
-}
-
-/// One turn of each work, by at most one gate a work.
-fn turn_by_some<R: Threads + Sync, T: Piece, G: Gate>(
-    rt: &R,
-    works: &mut [T],
-    gates: &mut [G],
-    round: u64,
-)
-    requires some { 0 < length works.old }
-    requires gates { 0 < length gates.old }
-    requires turns { AllByRecursion (λ work. T.turns_of work < 2 ^ 63) works.old }
-    ensures works { works.new ≡ map T.turned works.old }
-    ensures gates { Entered G.entries T.core_of works.old round gates.old gates.new }
-{
-    let workers = gates.len().min(works.len());
-    turn_by_gates(rt, works, &mut gates[..workers], round);
+    !works.is_empty() && works.len() <= 64
 }

@@ -2,9 +2,14 @@
 #![tactic(auto)]
 
 mod crew;
+mod fetching;
 mod gate;
+mod lending;
 mod list_gate;
+mod rounds;
 mod turns;
+mod worker;
+mod workers;
 
 pub use crew::Crew;
 pub use gate::{Gate, Open};

@@ -1,10 +1,10 @@
-use Rattle.std.proofs.Common.{◌≡◌, ◌+◌, ◌<◌, inl, inr, ℕ, [], ap, sym, subst, ◌∙◌, false, Option, Some, arith}
+use Rattle.std.proofs.Common.{◌≡◌, ◌+◌, ◌<◌, inl, inr, ℕ, [], ap, sym, subst, ◌∙◌, Option, Some, arith}
 use Rattle.atomic_table.specs.Table.{Me}
 use Rattle.trex_claims.specs.declared.view.View.{View}
-use Rattle.trex_claims.specs.Views.{IsFirst, IsEmpty}
+use Rattle.trex_claims.specs.Views.{IsEmpty}
 use Rattle.trex_claims.specs.Moves.{stand_at, rested, rested_if, restood, filled}
 use Rattle.trex_claims.proofs.Slots.{rested_what}
-use Rattle.trex_claims.proofs.Calls.{first_step, last_step, reached_at, swapped_is, homed_is}
+use Rattle.trex_claims.proofs.Calls.{first_step, gives_back, reached_at, homed_is}
 use Rattle.trex_claims.proofs.board.Board.lend.Goals as goal
 
 pub load-requires : goal.load-requires
@@ -35,14 +35,11 @@ load-requires-2 g c =
     let word : core + 1 < table.words = omega (arith, c.args.self.now.sized.0) in
     let r = reached_at piece.core_of piece.turns_of piece.stem_of piece.is_settled table.slots core me c.load.new.seat.me c.load.ensures.2 in
     let seat = c.exchange.new.seat in
-    let swapped = swapped_is piece.core_of piece.turns_of piece.stem_of piece.is_settled table.slots core me c.load.new.seat.me c.requires.free.1 below r (Some c.args.piece) seat.me seat.me c.exchange.ensures.3 in
-    let stays : rested v ≡ v = ap (λ b. rested_if b v) c.requires.closed in
-    let role : seat.me.0.role ≡ v.role = ap (λ m. m.0.role) swapped ∙ ap (λ (u : View). u.role) stays in
-    let off : seat.me.0.round.running ≡ false = ap (λ m. m.0.round.running) swapped ∙ ap (λ (u : View). u.round.running) stays ∙ c.requires.closed in (
+    let its_core : (p : g.row.T.Denot) → Some c.args.piece ≡ Some p → piece.core_of p ≡ core = λ p e. let same : c.args.piece ≡ p = cc in ap piece.core_of (sym same) ∙ sym is in (
       c.exchange.ensures.0 ∙ c.load.ensures.0 ∙ c.requires.board,
       word,
-      last_step piece.core_of piece.turns_of piece.stem_of piece.is_settled table.slots seat.id seat.me core (Some c.args.piece) (subst IsFirst (sym role) c.requires.first) off below
-          (ap (λ m. m.1) swapped) (λ p e. let same : c.args.piece ≡ p = cc in ap piece.core_of (sym same) ∙ sym is),
+      gives_back piece.core_of piece.turns_of piece.stem_of piece.is_settled table.slots core me c.load.new.seat.me c.requires.free.1 below r (Some c.args.piece) seat.me c.exchange.ensures.3
+          seat.id c.requires.first its_core,
     )
 
 pub returns-clause-seat : goal.returns-clause-seat
@@ -57,5 +54,5 @@ returns-clause-seat g c =
     let r = reached_at piece.core_of piece.turns_of piece.stem_of piece.is_settled table.slots core me c.load.new.seat.me c.load.ensures.2 in
     let seat = c.exchange.new.seat in
     let stays : rested v ≡ v = ap (λ b. rested_if b v) c.requires.closed in
-    let after = homed_is piece.core_of piece.turns_of piece.stem_of piece.is_settled table.slots core me c.load.new.seat.me c.requires.free.1 below r (Some c.args.piece) seat.me c.load-2.new.seat.me c.exchange.ensures.3 c.load-2.ensures.2 in
+    let after = homed_is piece.core_of piece.turns_of piece.stem_of piece.is_settled table.slots core me c.load.new.seat.me c.requires.free.1 below r (Some c.args.piece) seat.me c.exchange.ensures.3 c.load-2.new.seat.me c.load-2.ensures.2 in
     after ∙ ap (λ (q : View × ℕ). let m : Me (Option g.row.T.Denot) View = (restood q.0 q.1 (filled (stand_at q.0 q.1) (piece.turns_of c.args.piece) (piece.stem_of c.args.piece)), []) in m) (λ i. (stays i, is i))
