@@ -10,3 +10,4 @@ pub mod Heads
 pub mod Shares
 pub mod Rising
 pub mod Visits
+pub mod Numbered

@@ -78,7 +78,7 @@ runs_reached chain (suc n) run is reached = (
 )
 
 -- the runs below a duration
-all_precede : (chain : Chain) (d : ℕ) → EachPair Precedes (runs chain d)
+pub all_precede : (chain : Chain) (d : ℕ) → EachPair Precedes (runs chain d)
 all_precede chain d =
     pairs-filter Precedes (λ run. nat_lt run.start d) (runs_from chain d (run_at chain 0 0 0))
     (elim (run_at chain 0 0 0) as (λ o. EachPair Precedes (runs_from chain d o)) [
@@ -86,7 +86,7 @@ all_precede chain d =
       | Some run ↦ runs_precede chain d run
     ])
 
-all_reached : (chain : Chain) (d : ℕ) → IsChain chain → AllByRecursion (IsReached chain) (runs chain d)
+pub all_reached : (chain : Chain) (d : ℕ) → IsChain chain → AllByRecursion (IsReached chain) (runs chain d)
 all_reached chain d is =
     all-filter (IsReached chain) (λ run. nat_lt run.start d) (runs_from chain d (run_at chain 0 0 0))
     (elim (run_at chain 0 0 0) as (λ o. run_at chain 0 0 0 ≡ o → AllByRecursion (IsReached chain) (runs_from chain d o)) [
@@ -97,7 +97,7 @@ all_reached chain d is =
 -- ---- legs
 
 -- two legs of one stream stand at one place
-one_place : (legs : List Leg) (p q : ℕ) (a b : Leg) → EachPair (λ a b. ¬ (a.stream ≡ b.stream)) legs → slice_get legs p ≡ Some a → slice_get legs q ≡ Some b
+pub one_place : (legs : List Leg) (p q : ℕ) (a b : Leg) → EachPair (λ a b. ¬ (a.stream ≡ b.stream)) legs → slice_get legs p ≡ Some a → slice_get legs q ≡ Some b
     → a.stream ≡ b.stream → p ≡ q
 one_place [] p q a b distinct at at' same = absurd cc
 one_place (leg ∷ legs) zero zero a b distinct at at' same = refl

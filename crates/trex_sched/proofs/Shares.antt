@@ -22,15 +22,15 @@ given_by f (a ∷ rest) y (inl here) = (a, inl refl, here)
 given_by f (a ∷ rest) y (inr later) = let one = given_by f rest y later in (one.0, inr one.1, one.2)
 
 -- the legs of some chains
-abbrev legs_of : List Chain → List Leg
+abbrev pub legs_of : List Chain → List Leg
 legs_of chains = joined (map (λ chain. chain.legs) chains)
 
 -- legs name a stream
-abbrev Name : List Leg → ℕ → Type 0
+abbrev pub Name : List Leg → ℕ → Type 0
 Name legs stream = Has (map (λ leg. leg.stream) legs) stream
 
 -- the packets of some chains are those of streams that their legs name
-all_streams : (chains : List Chain) (d : ℕ) → AllByRecursion IsChain chains
+pub all_streams : (chains : List Chain) (d : ℕ) → AllByRecursion IsChain chains
     → ((chain : Chain) → IsChain chain → AllByRecursion (λ slot. Name chain.legs slot.stream) (entries chain d))
     → AllByRecursion (λ slot. Name (legs_of chains) slot.stream) (all_entries chains d)
 all_streams [] d are named = tt
@@ -50,7 +50,7 @@ all_streams (chain ∷ chains) d are named =
     named_append (a ∷ xs) ys s (inr there) = inr (named_append xs ys s (inr there))
 
 -- where legs name distinct streams, those before and those after a place name no stream together
-apart_streams : (xs ys : List Leg) (s t : ℕ) → EachPair (λ a b. ¬ (a.stream ≡ b.stream)) (xs ++ ys) → Name xs s → Name ys t → ¬ (s ≡ t)
+pub apart_streams : (xs ys : List Leg) (s t : ℕ) → EachPair (λ a b. ¬ (a.stream ≡ b.stream)) (xs ++ ys) → Name xs s → Name ys t → ¬ (s ≡ t)
 apart_streams xs ys s t distinct in_xs in_ys same =
     let a = given_by (λ (leg : Leg). leg.stream) xs s in_xs in
     let b = given_by (λ (leg : Leg). leg.stream) ys t in_ys in

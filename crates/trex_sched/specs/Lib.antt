@@ -5,3 +5,4 @@ pub mod Entries
 pub mod ToCome
 pub mod Heads
 pub mod Walks
+pub mod Numbers

@@ -2,9 +2,10 @@
 
 ghost use Rattle.std.specs.Prelude.{◌≡◌, ◌==◌, ◌∷◌, ◌++◌, ◌<◌, ◌≤◌, ℕ, nat_lt, count_by, List, map, Option, Some};
 ghost use Rattle.std.specs.List.{AllByRecursion, filter};
-ghost use Rattle.trex_merge.specs.Order.{AreDistinct, Has, IsRising};
+ghost use Rattle.trex_merge.specs.Order.{AreDistinct, Has, IsRising, ordered};
 ghost use Rattle.trex_sched.specs.Chain.{Chain, IsChain};
 ghost use Rattle.trex_sched.specs.Entries.{entries, key_of, share};
+ghost use Rattle.trex_sched.specs.Numbers.{AreNumbered, of_stream};
 ghost use Rattle.trex_sched.specs.Runs.{run_at, runs, runs_from};
 ghost use Rattle.trex_sched.specs.Times.{HasPackets, offset, size, span};
 ghost use Rattle.trex_sched.specs.Walks.{HaveDistinctStreams, all_entries};
@@ -54,4 +55,11 @@ pub fn chains_are_apart()
     // No two have one stream and one number.
     ensures { (chains : List Chain) (d : ℕ) → AllByRecursion IsChain chains → HaveDistinctStreams chains
         → AreDistinct key_of (all_entries chains d) }
+{}
+
+/// The packets of a stream have all numbers from 0 on, in order.
+pub fn numbers_follow()
+    ensures chain { (chain : Chain) (d stream : ℕ) → IsChain chain → AreNumbered 0 (of_stream stream (entries chain d)) }
+    ensures chains { (chains : List Chain) (d stream : ℕ) → AllByRecursion IsChain chains → HaveDistinctStreams chains
+        → AreNumbered 0 (of_stream stream (ordered key_of (all_entries chains d))) }
 {}

@@ -16,7 +16,7 @@ mod walk;
 mod walks;
 
 pub use chain::{ChainSpec, Leg};
-pub use laws::{chains_are_apart, entries_rise, offsets_rise, runs_rise};
+pub use laws::{chains_are_apart, entries_rise, numbers_follow, offsets_rise, runs_rise};
 pub use mode::Mode;
 pub use period::Period;
 pub use run::Run;
