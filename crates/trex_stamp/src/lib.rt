@@ -2,9 +2,11 @@
 #![tactic(auto)]
 
 mod header;
+mod laws;
 mod spelling;
 #[cfg(test)]
 mod tests;
 
 pub use header::Stamp;
+pub use laws::stamps_are_found;
 pub use spelling::{find_stamp, stamp};

@@ -1,4 +1,5 @@
 pub mod Fixed
 pub mod Steps
 pub mod Theorem
+pub mod Stamped
 pub mod Ends

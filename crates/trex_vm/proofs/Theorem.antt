@@ -119,7 +119,7 @@ room-le true least long le = omega arith
 room-le false least long le = le
 
 -- the room ends in front of the latency header
-Runs-room : (p : Plan) (values : List VarValue) (stamp : Option Stamp) (template : List ℕ) → Runs p values stamp template
+pub Runs-room : (p : Plan) (values : List VarValue) (stamp : Option Stamp) (template : List ℕ) → Runs p values stamp template
     → room p ≤ cond (is_some stamp) (cut p values template - 16) (cut p values template)
 Runs-room p values stamp template runs =
     let P : Bool → Type 0 = λ t. room p ≤ cond t (cut p values template - 16) (cut p values template) in

@@ -1,10 +1,11 @@
 // The laws of programs.
 
-ghost use Rattle.std.specs.Prelude.{◌≡◌, ℕ, ◌≤◌, Bool, true, List, Option, is_some, length, map};
+ghost use Rattle.std.specs.Prelude.{◌≡◌, ℕ, ◌≤◌, ◌++◌, Bool, true, List, Option, Some, is_some, length, map};
 ghost use Rattle.trex_vars.specs.Variable.{Variable};
 ghost use Rattle.trex_vars.specs.Value.{value_at};
 ghost use Rattle.trex_vm.specs.declared.instr.Instr.{Instr as AnInstr};
 ghost use Rattle.trex_stamp.specs.declared.header.Stamp.{Stamp as AStamp};
+ghost use Rattle.trex_stamp.specs.Stamp.{stamp_bytes};
 ghost use Rattle.trex_vm.specs.Packet.{packet};
 ghost use Rattle.trex_vm.specs.Rules.{accepts};
 ghost use Rattle.trex_vm.specs.Program.{AreOperandsOf, AreSound, AreValuesOf, IsTemplateOf, plan_of};
@@ -23,6 +24,11 @@ pub fn programs_fit()
         → AreOperandsOf vars instrs → AreSound vars → accepts vars template (is_some stamp) instrs ≡ true
         → 14 ≤ length template → length template ≤ 9216
         → length (packet instrs (map (λ v. value_at v n) vars) stamp template) ≤ length template }
+    // A packet with a latency header ends in it.
+    ensures stamped { (instrs : List AnInstr) (vars : List Variable) (template : List ℕ) (stamp : AStamp) (n : ℕ)
+        → AreOperandsOf vars instrs → AreSound vars → accepts vars template true instrs ≡ true
+        → 14 ≤ length template → length template ≤ 9216
+        → (front : List ℕ) × (packet instrs (map (λ v. value_at v n) vars) (Some stamp) template ≡ front ++ stamp_bytes stamp) }
 {
     values_lie_between();
 }
