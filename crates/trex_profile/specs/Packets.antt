@@ -1,6 +1,7 @@
 -- The packets of a stream (own).
-use Rattle.std.specs.Prelude.{ℕ, ◌%◌, ◌^◌, List, map, Option, option_map}
+use Rattle.std.specs.Prelude.{◌≡◌, ℕ, ◌%◌, ◌^◌, List, ◌++◌, map, Option, option_map, IfSome}
 use Rattle.trex_stamp.specs.declared.header.Stamp.{Stamp}
+use Rattle.trex_stamp.specs.Stamp.{stamp_bytes}
 use Rattle.trex_vars.specs.Variable.{Variable}
 use Rattle.trex_vars.specs.Value.{value_at}
 use Rattle.trex_vm.specs.declared.instr.Instr.{Instr}
@@ -23,3 +24,8 @@ stamp_at s number time = option_map (λ flow. record { flow = flow; sequence = n
 -- the packet of a number at an absolute time in nanoseconds
 abbrev pub packet_of : Stream → ℕ → ℕ → List ℕ
 packet_of s number time = packet (program s) (map (λ v. value_at v number) (variables s)) (stamp_at s number time) s.template
+
+-- each packet of a stream that has a flow ends in its latency header
+abbrev pub EndsInStamp : Stream → Type 0
+EndsInStamp s =
+    (number time : ℕ) → IfSome (stamp_at s number time) (λ stamp. (front : List ℕ) × (packet_of s number time ≡ front ++ stamp_bytes stamp))

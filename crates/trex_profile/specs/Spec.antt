@@ -1,14 +1,15 @@
 -- What an admitted stream's packets are made of (own).
-use Rattle.std.specs.Prelude.{◌≡◌, ℕ, ◌≤◌, length, map, is_some}
+use Rattle.std.specs.Prelude.{◌≡◌, ℕ, ◌≤◌, ◌<◌, ◌^◌, length, map, is_some, IfSome}
 use Rattle.trex_vars.specs.Variable.{variable_of}
 use Rattle.trex_vars.specs.Value.{value_at}
 use Rattle.trex_vm.specs.Program.{AreSound, AreValuesOf, IsTemplateOf, plan_of}
 use Rattle.trex_profile.specs.declared.member.StreamSpec.{StreamSpec}
-use Rattle.trex_profile.specs.Packets.{variables, program, packet_of}
+use Rattle.trex_profile.specs.Packets.{variables, program, packet_of, EndsInStamp}
 use Rattle.trex_profile.specs.Stream.{Stream}
 
 -- It says what the packets of a stream are made of: its variables, of which none has a fault, and a program that is meant for its
--- template and for the values of the variables at each packet number. No packet is longer than the longest.
+-- template and for the values of the variables at each packet number. No packet is longer than the longest, and each ends in its latency
+-- header, where the stream has a flow.
 pub record IsSpecOf (s : Stream) (spec : StreamSpec) : Type 0 where
   pub id : spec.id ≡ s.id
   pub template : spec.template.items ≡ s.template
@@ -19,3 +20,5 @@ pub record IsSpecOf (s : Stream) (spec : StreamSpec) : Type 0 where
   pub fits : IsTemplateOf spec.program s.template
   pub values : (number : ℕ) → AreValuesOf spec.program (map (λ v. value_at v number) (variables s))
   pub short : (number time : ℕ) → length (packet_of s number time) ≤ 9216
+  pub flows : IfSome s.flow (λ flow. flow < 2 ^ 16)
+  pub stamped : EndsInStamp s

@@ -31,7 +31,7 @@ impl Model for Profile {
 }
 
 impl Profile {
-    ghost use Rattle.std.specs.Prelude.{◌≡◌, ℕ, ◌≤◌, ◌<◌, ◌↔◌, [], length, map, All, None, Some, IsTrue, IfOk, IsSomeAnd, slice_get};
+    ghost use Rattle.std.specs.Prelude.{◌≡◌, ℕ, ◌≤◌, ◌<◌, ◌^◌, ◌↔◌, [], length, map, All, None, Some, IsTrue, IfOk, IfSome, IsSomeAnd, slice_get};
     ghost use Rattle.std.specs.List.{AllByRecursion};
     ghost use Rattle.trex_sched.specs.Chain.{chain_of, IsChain};
     ghost use Rattle.trex_sched.specs.Walks.{HaveDistinctStreams};
@@ -39,7 +39,7 @@ impl Profile {
     ghost use Rattle.trex_profile.specs.Chains.{starts, chains_of};
     ghost use Rattle.trex_profile.specs.Links.{links};
     ghost use Rattle.trex_profile.specs.Member.{member_stream, IsMember};
-    ghost use Rattle.trex_profile.specs.Packets.{packet_of};
+    ghost use Rattle.trex_profile.specs.Packets.{EndsInStamp, packet_of};
     ghost use Rattle.trex_profile.specs.Reached.{AreRising};
     ghost use Rattle.trex_profile.specs.Spec.{IsSpecOf};
     ghost use Rattle.trex_profile.specs.Visits.{link_at};
@@ -69,6 +69,9 @@ impl Profile {
         // A profile keeps the rules, and no packet is longer than the longest.
         ensures kept { refusal_of self.now ≡ None }
         ensures short { AllByRecursion (λ s. (number time : ℕ) → length (packet_of s number time) ≤ 9216) self.now }
+        // Each packet of a stream that has a flow ends in its latency header.
+        ensures stamped { AllByRecursion EndsInStamp self.now }
+        ensures flows { AllByRecursion (λ s. IfSome s.flow (λ flow. flow < 2 ^ 16)) self.now }
     {
         self.members.len()
     }

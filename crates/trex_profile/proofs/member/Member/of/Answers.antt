@@ -1,9 +1,11 @@
-use Rattle.std.proofs.Common.{◌≡◌, ℕ, Bool, List, true, length, map, ap, subst, sym, ◌∙◌, refl, is_some, arith, Option, None, Some, ◌%◌, ◌^◌}
+use Rattle.std.proofs.Common.{rules, ◌≡◌, ℕ, ◌<◌, ◌++◌, Bool, List, true, IfSome, length, map, ap, subst, sym, ◌∙◌, refl, is_some, arith, Option, None, Some, ◌%◌, ◌^◌}
 use Rattle.std.specs.Option.{option_map}
 use Rattle.trex_stamp.specs.declared.header.Stamp.{Stamp}
+use Rattle.trex_stamp.specs.Stamp.{stamp_bytes}
 use Rattle.trex_vars.specs.Value.{value_at}
 use Rattle.trex_vars.specs.Variable.{Variable, variable_of}
 use Rattle.trex_vm.specs.declared.instr.Instr.{Instr}
+use Rattle.trex_vm.specs.Packet.{packet}
 use Rattle.trex_vm.specs.Program.{Plan, AreOperandsOf, AreSound, AreValuesOf, IsTemplateOf, plan_of}
 use Rattle.trex_vm.specs.Rules.{accepts}
 use Rattle.trex_profile.specs.Instruction.{instruction}
@@ -32,6 +34,15 @@ returns-clause-spec c =
     subst (λ (v : List Variable). AreOperandsOf v (program s)) vars
     (subst (λ (p : List Instr). AreOperandsOf (map variable_of c.in_ok-parts.parts.vars.items) p) (ap program_of steps) c.in_ok-parts.ensures.operands) in
     let sound : AreSound (variables s) = subst AreSound vars c.in_ok-parts.ensures.sound in
+    let Ends : ℕ → ℕ → Option ℕ → Type 0 = λ number time flow. IfSome (option_map (λ f. stamp f number time) flow) (λ st.
+    (front : List ℕ) × (packet (program s) (map (λ v. value_at v number) (variables s)) (option_map (λ f. stamp f number time) flow) s.template ≡ front ++ stamp_bytes st)) in
+    let ends : (number time : ℕ) (flow : Option ℕ) → accepts (variables s) s.template (is_some flow) (program s) ≡ true → Ends number time flow =
+    λ number time flow. elim flow as (λ o. accepts (variables s) s.template (is_some o) (program s) ≡ true → Ends number time o) [
+      | None ↦ λ any. tt
+      | Some f ↦ λ taken. c.programs_fit.ensures.stamped (program s) (variables s) s.template (stamp f number time) number operands sound taken
+      c.in_ok-period.ensures.at_least c.in_ok-period.ensures.at_most
+    ] in
+    let flow_small : IfSome s.flow (λ flow. flow < 2 ^ 16) = search rules in
     record {
       id = refl;
       template = refl;
@@ -47,6 +58,8 @@ returns-clause-spec c =
           (subst (λ b. accepts (variables s) s.template b (program s) ≡ true) (sym (stamps number time s.flow)) accepted) c.in_ok-period.ensures.at_least c.in_ok-period.ensures.at_most in
           let most = c.in_ok-period.ensures.at_most in
           omega (arith, within, most);
+      flows = flow_small;
+      stamped = λ number time. ends number time s.flow accepted;
     }
   where
     stamp : ℕ → ℕ → ℕ → Stamp

@@ -1,8 +1,9 @@
-use Rattle.std.proofs.Common.{◌≡◌, ℕ, ◌≤◌, List, length, map, All, subst}
+use Rattle.std.proofs.Common.{◌≡◌, ℕ, ◌≤◌, ◌<◌, ◌^◌, List, length, map, All, IfSome, subst}
 use Rattle.std.specs.List.{AllByRecursion}
 use Rattle.std.proofs.lemmas.List.Elements.{All-map, recursion_from_All}
-use Rattle.trex_profile.specs.Member.{IsMember, member_stream}
-use Rattle.trex_profile.specs.Packets.{packet_of}
+use Rattle.trex_profile.specs.declared.member.Member.{Member}
+use Rattle.trex_profile.specs.Member.{member_stream}
+use Rattle.trex_profile.specs.Packets.{EndsInStamp, packet_of}
 use Rattle.trex_profile.specs.Stream.{Stream}
 use Rattle.trex_profile.proofs.profile.Profile.len.Goals as goal
 
@@ -10,8 +11,23 @@ use Rattle.trex_profile.proofs.profile.Profile.len.Goals as goal
 abbrev IsShort : Stream → Type 0
 IsShort s = (number time : ℕ) → length (packet_of s number time) ≤ 9216
 
+-- what holds of each member holds of each stream
+each-stream : (P : Stream → Type 0) (members : List Member) (p : List Stream) → map member_stream members ≡ p → All (λ m. P (member_stream m)) members
+    → AllByRecursion P p
+each-stream P members p is each = subst (AllByRecursion P) is (recursion_from_All P (map member_stream members) (All-map P member_stream members each))
+
+-- the flow number of a stream that has a flow fits 16 bits
+abbrev HasFlow : Stream → Type 0
+HasFlow s = IfSome s.flow (λ flow. flow < 2 ^ 16)
+
 pub returns-clause-short : goal.returns-clause-short
 returns-clause-short c =
-    let members = c.self.inside.members.items in
-    let each : All (λ m. IsShort (member_stream m)) members = λ k d below. (c.self.invariant.2 k d below).short in
-    subst (AllByRecursion IsShort) c.self.view_is (recursion_from_All IsShort (map member_stream members) (All-map IsShort member_stream members each))
+    each-stream IsShort c.self.inside.members.items _ c.self.view_is (λ k d below. (c.self.invariant.2 k d below).short)
+
+pub returns-clause-stamped : goal.returns-clause-stamped
+returns-clause-stamped c =
+    each-stream EndsInStamp c.self.inside.members.items _ c.self.view_is (λ k d below. (c.self.invariant.2 k d below).stamped)
+
+pub returns-clause-flows : goal.returns-clause-flows
+returns-clause-flows c =
+    each-stream HasFlow c.self.inside.members.items _ c.self.view_is (λ k d below. (c.self.invariant.2 k d below).flows)
