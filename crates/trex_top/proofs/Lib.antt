@@ -5,3 +5,4 @@ pub mod Schedule
 pub mod Stepping
 pub mod Readying
 pub mod TooLong
+pub mod Clean

@@ -7,3 +7,4 @@ pub mod Clauses
 pub mod Making
 pub mod Steps
 pub mod Ready
+pub mod Clean

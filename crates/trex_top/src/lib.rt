@@ -5,6 +5,7 @@ mod check;
 mod command;
 mod go_on;
 mod input;
+mod laws;
 mod names;
 mod pieces;
 mod ready;
@@ -15,6 +16,7 @@ mod texts;
 mod writing;
 
 pub use command::{Status, trex_main};
+pub use laws::runs_measure_clean;
 pub use ready::{Ready, prepare};
 pub use texts::Tally;
 pub use writing::generate;
