@@ -570,24 +570,44 @@ fn a_field_comes_after_stamps_and_before_places(rt: HostRuntime) -> Result<(), F
     let past = r#"{"type":"write_flow_var","name":"v","pkt_offset":60}"#;
     let no_header = r#"{"type":"fix_checksum_ipv4","pkt_offset":15}"#;
     for (binary, flow, instrs, expected) in [
-        (
-            UDP_60,
-            None,
-            [FOUR, source].as_slice(),
-            None,
-        ),
+        (UDP_60, None, [FOUR, source].as_slice(), None),
         (UDP_60, None, &[FOUR, port], at(Rule::BadField, 1)),
         (UDP_60, None, &[FOUR, tag], at(Rule::BadField, 1)),
         (UDP_60, None, &[VARIABLE, masked], at(Rule::BadField, 1)),
         (UDP_60, None, &[FOUR, version], at(Rule::BadField, 1)),
-        (UDP_60, None, &[VARIABLE, version, FIX], at(Rule::WriteOnShape, 1)),
+        (
+            UDP_60,
+            None,
+            &[VARIABLE, version, FIX],
+            at(Rule::WriteOnShape, 1),
+        ),
         (UDP_60, None, &[port, source], at(Rule::UnknownVariable, 0)),
-        (UDP_60, None, &[FINE, TRIM, TRIM, FOUR, port], at(Rule::TwoTrims, 2)),
-        (UDP_60, None, &[LENGTH, TRIM, FOUR, port], at(Rule::TrimRange, 1)),
+        (
+            UDP_60,
+            None,
+            &[FINE, TRIM, TRIM, FOUR, port],
+            at(Rule::TwoTrims, 2),
+        ),
+        (
+            UDP_60,
+            None,
+            &[LENGTH, TRIM, FOUR, port],
+            at(Rule::TrimRange, 1),
+        ),
         (LONG_29, Some(3), &[FOUR, port], whole(Rule::NoRoomForStamp)),
         (UDP_60, None, &[FOUR, past, port], at(Rule::BadField, 2)),
-        (UDP_60, None, &[FOUR, no_header, port], at(Rule::BadField, 2)),
-        (UDP_60, None, &[FINE, TRIM, FOUR, source], at(Rule::WriteRoom, 3)),
+        (
+            UDP_60,
+            None,
+            &[FOUR, no_header, port],
+            at(Rule::BadField, 2),
+        ),
+        (
+            UDP_60,
+            None,
+            &[FINE, TRIM, FOUR, source],
+            at(Rule::WriteRoom, 3),
+        ),
     ] {
         let found = refused(rt.alloc(), binary, flow, instrs)?;
         assert_eq!(rt; found, expected, "{expected:?}");
