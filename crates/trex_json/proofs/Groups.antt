@@ -25,7 +25,7 @@ in_order entry stream =
     let heads : Rules = rule BadEntry (is_none (an_object entry)) ∷ rule BadStreamId (wrong row.stream_id entry) ∷ rule BadStream (wrong row.stream entry) ∷ [] in
     let fields : Rules = rule BadEnabled (wrong row.enabled stream) ∷ rule BadSelfStart (wrong row.self_start stream) ∷ rule BadIsg (wrong row.isg stream)
     ∷ rule BadNext (wrong row.next stream) ∷ rule BadActionCount (wrong row.action_count stream) ∷ rule BadSeed (wrong row.seed stream) ∷ [] in
-    let packets : Rules = rule BadPacket (packet_wrong stream) ∷ rule Unbuilt (unbuilt (value row.packet stream) stream)
+    let packets : Rules = rule BadPacket (packet_wrong stream) ∷ rule Unbuilt (unbuilt (value row.packet stream))
     ∷ rule BadBinary (wrong row.binary (value row.packet stream)) ∷ [] in
     let modes : Rules = rule BadMode (wrong row.mode stream || wrong row.mode_type mode) ∷ rule BadRate (rate_wrong mode) ∷ [] in
     let counts : Rules = rule BadCount (count_wrong (word_of stream) mode) ∷ rule BadIbg (ibg_wrong (word_of stream) mode) ∷ [] in

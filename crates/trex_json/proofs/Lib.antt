@@ -1,4 +1,3 @@
 pub mod JsonLemmas
 pub mod Groups
 pub mod Decimals
-pub mod Items

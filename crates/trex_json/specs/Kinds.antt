@@ -10,7 +10,7 @@ use Rattle.trex_decimal.specs.declared.decimal.DecimalFault.{DecimalFault}
 use Rattle.trex_profile.specs.declared.raw.RateKind.{RateKind}
 use Rattle.trex_profile.specs.declared.raw.RateKind.TheVariants.{Pps, BpsL1, BpsL2}
 use Rattle.trex_profile.specs.declared.raw.RawPlace.{RawPlace}
-use Rattle.trex_profile.specs.declared.raw.RawPlace.TheVariants.{At}
+use Rattle.trex_profile.specs.declared.raw.RawPlace.TheVariants.{At, Named}
 use Rattle.trex_vars.specs.declared.spec.Op.{Op}
 use Rattle.trex_vars.specs.declared.spec.Op.TheVariants.{Inc, Dec, Random}
 use Rattle.trex_json.specs.declared.kinds.InstrWord.{InstrWord}
@@ -130,9 +130,16 @@ shift_of (negsuc n) = if nat_le n 62 then Some (negsuc n) else None
 abbrev pub a_shift : Data → Option ℤ
 a_shift d = option_and_then shift_of (a_signed d)
 
--- the byte at which a write begins
+-- where a write begins: the byte that a text writes as a whole number, else the field that it names
+abbrev pub place_by : List ℕ → Option ℕ → RawPlace
+place_by text None = Named text
+place_by text (Some at) = At at
+
+abbrev pub place_of_text : List ℕ → RawPlace
+place_of_text text = place_by text (whole_of text)
+
 abbrev pub a_place : Data → Option RawPlace
-a_place d = option_map At (whole (2 ^ 64 - 1) d)
+a_place d = option_map place_of_text (as_str d)
 
 -- how a variable goes from packet to packet
 abbrev pub op_of_word : List ℕ → Option Op

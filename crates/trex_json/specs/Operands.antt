@@ -1,6 +1,7 @@
 -- The operands of instructions (own).
 use Rattle.std.specs.Prelude.{ℕ, ◌||◌, Bool, List, [], ◌∷◌, Option, None, Some, is_none}
 use Rattle.serde_json.specs.Data.{Data}
+use Rattle.trex_profile.specs.declared.raw.RawPlace.{RawPlace}
 use Rattle.trex_profile.specs.declared.refusal.Breach.{Breach}
 use Rattle.trex_profile.specs.declared.rule.Rule.TheVariants.{BadInstruction, BadOperand}
 use Rattle.trex_profile.specs.Instruction.{Instruction, FlowVar, ListVar, RandLimit, Tuple, Write, WriteMask, FixIpv4, FixHw, Trim}
@@ -47,20 +48,20 @@ tuple name d =
 
 -- those of a write are wrong
 unfoldable pub write_wrong : Data → Bool
-write_wrong d = wrong row.write_offset d || wrong row.add_value d || wrong row.is_big_endian d
+write_wrong d = wrong row.add_value d || wrong row.is_big_endian d
 
-abbrev pub write : List ℕ → Data → Instruction
-write name d = Write name (value row.write_offset d) (value row.add_value d) (value row.is_big_endian d)
+-- a write of that variable at a place
+abbrev pub write : List ℕ → RawPlace → Data → Instruction
+write name place d = Write name place (value row.add_value d) (value row.is_big_endian d)
 
 -- those of a masked write are wrong
 unfoldable pub write_mask_wrong : Data → Bool
 write_mask_wrong d =
-    wrong row.write_offset d || wrong row.add_value d || wrong row.is_big_endian d || wrong row.cast_size d || wrong row.mask d
-    || wrong row.shift d
+    wrong row.add_value d || wrong row.is_big_endian d || wrong row.cast_size d || wrong row.mask d || wrong row.shift d
 
-abbrev pub write_mask : List ℕ → Data → Instruction
-write_mask name d =
-    WriteMask name (value row.write_offset d) (value row.cast_size d) (value row.mask d) (value row.shift d) (value row.add_value d)
+abbrev pub write_mask : List ℕ → RawPlace → Data → Instruction
+write_mask name place d =
+    WriteMask name place (value row.cast_size d) (value row.mask d) (value row.shift d) (value row.add_value d)
     (value row.is_big_endian d)
 
 -- those of the fixes of a header and of what stands behind it are wrong
@@ -75,8 +76,8 @@ abbrev pub operands_wrong : ℕ → InstrWord → Data → Bool
 operands_wrong seed FlowVarWord d = wrong row.name d || wrong row.value_list d || flow_var_wrong d
 operands_wrong seed RandLimitWord d = wrong row.name d || rand_limit_wrong seed d
 operands_wrong seed TupleWord d = wrong row.name d || tuple_wrong d
-operands_wrong seed WriteWord d = wrong row.name d || write_wrong d
-operands_wrong seed WriteMaskWord d = wrong row.name d || write_mask_wrong d
+operands_wrong seed WriteWord d = wrong row.name d || wrong row.write_offset d || write_wrong d
+operands_wrong seed WriteMaskWord d = wrong row.name d || wrong row.write_offset d || write_mask_wrong d
 operands_wrong seed FixIpv4Word d = wrong row.fix_offset d
 operands_wrong seed FixHwWord d = fix_hw_wrong d
 operands_wrong seed TrimWord d = wrong row.name d
@@ -86,8 +87,8 @@ abbrev pub instruction_by : ℕ → InstrWord → Data → Instruction
 instruction_by seed FlowVarWord d = flow_var (value row.name d) (value row.value_list d) d
 instruction_by seed RandLimitWord d = rand_limit (value row.name d) seed d
 instruction_by seed TupleWord d = tuple (value row.name d) d
-instruction_by seed WriteWord d = write (value row.name d) d
-instruction_by seed WriteMaskWord d = write_mask (value row.name d) d
+instruction_by seed WriteWord d = write (value row.name d) (value row.write_offset d) d
+instruction_by seed WriteMaskWord d = write_mask (value row.name d) (value row.write_offset d) d
 instruction_by seed FixIpv4Word d = FixIpv4 (value row.fix_offset d)
 instruction_by seed FixHwWord d = fix_hw d
 instruction_by seed TrimWord d = Trim (value row.name d)

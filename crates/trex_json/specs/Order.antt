@@ -24,7 +24,7 @@ rules_of entry stream =
     ∷ rule BadActionCount (wrong row.action_count stream)
     ∷ rule BadSeed (wrong row.seed stream)
     ∷ rule BadPacket (packet_wrong stream)
-    ∷ rule Unbuilt (unbuilt (value row.packet stream) stream)
+    ∷ rule Unbuilt (unbuilt (value row.packet stream))
     ∷ rule BadBinary (wrong row.binary (value row.packet stream))
     ∷ rule BadMode (wrong row.mode stream || wrong row.mode_type (value row.mode stream))
     ∷ rule BadRate (rate_wrong (value row.mode stream))

@@ -1,9 +1,6 @@
 -- The rules on the shape of one entry, and what an entry says (own).
-use Rattle.std.specs.Prelude.{ℕ, ◌||◌, ◌&&◌, nat_lt, Bool, true, false, List, [], ◌∷◌, length, map, Option, None, Some, is_none, is_some, option_map, option_and_then, codes, if◌then◌else◌}
-use Rattle.std.specs.List.{list_any}
+use Rattle.std.specs.Prelude.{ℕ, ◌||◌, ◌&&◌, nat_lt, Bool, true, false, List, [], ◌∷◌, length, map, Option, None, Some, is_none, is_some, option_map, codes, if◌then◌else◌}
 use Rattle.serde_json.specs.Data.{Data}
-use Rattle.serde_json.specs.Find.{as_str}
-use Rattle.trex_decimal.specs.Decimal.{whole_of}
 use Rattle.trex_sched.specs.declared.mode.Mode.{Mode}
 use Rattle.trex_sched.specs.declared.mode.Mode.TheVariants.{Continuous, SingleBurst, MultiBurst}
 use Rattle.trex_profile.specs.declared.raw.RawRate.{RawRate}
@@ -14,13 +11,11 @@ use Rattle.trex_profile.specs.Instruction.{Instruction}
 use Rattle.trex_profile.specs.Order.{first, first_each}
 use Rattle.trex_profile.specs.Refusal.{rule, in_stream}
 use Rattle.trex_profile.specs.Stream.{Stream}
-use Rattle.trex_json.specs.declared.kinds.InstrWord.{InstrWord}
-use Rattle.trex_json.specs.declared.kinds.InstrWord.TheVariants.{FlowVar as FlowVarWord, RandLimit as RandLimitWord, Tuple as TupleWord, Write as WriteWord, WriteMask as WriteMaskWord, FixIpv4 as FixIpv4Word, FixHw as FixHwWord, Trim as TrimWord}
 use Rattle.trex_json.specs.declared.kinds.ModeWord.{ModeWord}
 use Rattle.trex_json.specs.declared.kinds.ModeWord.TheVariants.{Continuous as ContinuousWord, SingleBurst as SingleBurstWord, MultiBurst as MultiBurstWord}
 use Rattle.trex_json.specs.declared.stream.Fields.{Fields}
 use Rattle.trex_json.specs.Kinds.{an_object}
-use Rattle.trex_json.specs.Names.{under, told, wrong, value}
+use Rattle.trex_json.specs.Names.{under, wrong, value}
 use Rattle.trex_json.specs.Operands.{instr_rules, instruction_of}
 use Rattle.trex_json.specs.Rows as row
 
@@ -68,30 +63,9 @@ packet_wrong stream =
 abbrev pub items : Data → List Data
 items stream = value row.instructions (value row.vm stream)
 
--- an instruction of that word writes a variable
-abbrev pub is_write : Option InstrWord → Bool
-is_write None = false
-is_write (Some FlowVarWord) = false
-is_write (Some RandLimitWord) = false
-is_write (Some TupleWord) = false
-is_write (Some WriteWord) = true
-is_write (Some WriteMaskWord) = true
-is_write (Some FixIpv4Word) = false
-is_write (Some FixHwWord) = false
-is_write (Some TrimWord) = false
-
--- there is a text that writes no whole number
-abbrev pub is_no_number : Option (List ℕ) → Bool
-is_no_number None = false
-is_no_number (Some text) = is_none (whole_of text)
-
--- an instruction writes at the name of a field
-abbrev pub names_field : Data → Bool
-names_field d = is_write (told row.instr_type d) && is_no_number (option_and_then as_str (under (codes "pkt_offset") d))
-
--- a form that isn't read: layers, or a write at the name of a field
-unfoldable pub unbuilt : Data → Data → Bool
-unbuilt packet stream = is_none (under (codes "binary") packet) || list_any names_field (items stream)
+-- a form that isn't read: layers
+unfoldable pub unbuilt : Data → Bool
+unbuilt packet = is_none (under (codes "binary") packet)
 
 -- a rate, its type or its value is wrong
 unfoldable pub rate_wrong : Data → Bool
@@ -171,7 +145,7 @@ unfoldable pub stream_rules : Data → Option Breach
 stream_rules stream = first (
     field_rules stream
     ∷ rule BadPacket (packet_wrong stream)
-    ∷ rule Unbuilt (unbuilt (value row.packet stream) stream)
+    ∷ rule Unbuilt (unbuilt (value row.packet stream))
     ∷ rule BadBinary (wrong row.binary (value row.packet stream))
     ∷ mode_rules stream
     ∷ work_rules (value row.seed stream) stream

@@ -1,65 +1,27 @@
 // The instructions of a stream.
 
-ghost use Rattle.std.specs.Prelude.{◌≡◌, ◌≤◌, ◌-◌, ◌^◌, List, length, map, All, Option, None, Some, IfOk, IfSome, option_map, option_and_then, codes, if◌then◌else◌};
-ghost use Rattle.std.specs.List.{list_any};
-ghost use Rattle.serde_json.specs.Find.{as_str};
+ghost use Rattle.std.specs.Prelude.{◌≡◌, ◌≤◌, ◌-◌, ◌^◌, List, length, map, All, Option, None, Some, IfOk, IfSome, option_map, if◌then◌else◌};
 ghost use Rattle.serde_json.specs.View.{view};
 ghost use Rattle.trex_fields.specs.Bytes.{IsSize};
 ghost use Rattle.trex_profile.specs.Answer.{Gives};
 ghost use Rattle.trex_profile.specs.Instruction.{instruction, IsRawInstr, FixIpv4};
 ghost use Rattle.trex_profile.specs.Order.{first_each, unless};
 ghost use Rattle.trex_profile.specs.Refusal.{rule_there};
-ghost use Rattle.trex_json.specs.Names.{under, told};
+ghost use Rattle.trex_json.specs.Kinds.{place_of_text};
+ghost use Rattle.trex_json.specs.Names.{told};
 ghost use Rattle.trex_json.specs.Operands.{flow_var_wrong, flow_var, rand_limit_wrong, rand_limit, tuple_wrong, tuple, write_wrong, write, write_mask_wrong, write_mask, fix_hw_wrong, fix_hw, operands_wrong, instruction_by, instr_rules, instruction_of};
 ghost use Rattle.trex_json.specs.Rows as row;
-ghost use Rattle.trex_json.specs.Shape.{is_write, is_no_number, names_field};
 
 use crate::binary::values_told;
 use crate::kinds::{InstrWord, an_object};
 use crate::names::{
-    bool_told, instr_told, op_told, place_told, segment_told, shift_told, signed_told, size_told,
-    text_told, under, whole_told,
+    bool_told, instr_told, op_told, segment_told, shift_told, signed_told, size_told, text_told,
+    whole_told,
 };
 use serde_json::Value;
 use std::alloc::Global;
 use trex_io::Memory;
-use trex_profile::{Name, RawInstr, Rule, StreamFault};
-
-/// Whether an instruction of that word writes a variable.
-fn is_write(word: Option<InstrWord>) -> bool
-    ensures { result ≡ is_write word }
-{
-    matches!(word, Some(InstrWord::Write | InstrWord::WriteMask))
-}
-
-/// Whether there is a text that writes no whole number.
-fn is_no_number(text: Option<&str>) -> bool
-    ensures { result ≡ is_no_number (option_map (λ t. t.now) text.entry) }
-{
-    match text {
-        None => false,
-        Some(text) => trex_decimal::whole(text).is_none(),
-    }
-}
-
-/// Whether an instruction writes at the name of a field.
-fn names_field(item: &Value) -> bool
-    ensures { result ≡ names_field (view item.now) }
-{
-    is_write(instr_told(item, "type")) && is_no_number(text_told(item, "pkt_offset"))
-}
-
-/// Whether one of these instructions does.
-pub(crate) fn name_fields(items: &[Value]) -> bool
-    ensures { result ≡ list_any names_field (map view items.now) }
-{
-    for item in items {
-        if names_field(item) {
-            return true;
-        }
-    }
-    false
-}
+use trex_profile::{Name, RawInstr, RawPlace, Rule, StreamFault};
 
 /// The name of a variable.
 fn name_told(alloc: Global, item: &Value) -> Result<Option<Name>, Memory>
@@ -67,6 +29,26 @@ fn name_told(alloc: Global, item: &Value) -> Result<Option<Name>, Memory>
 {
     match text_told(item, "name") {
         Some(text) => Ok(Some(Name::of(alloc, text)?)),
+        None => Ok(None),
+    }
+}
+
+/// Where a write begins: the byte that a text writes, else the field that it names.
+fn place_of(alloc: Global, text: &str) -> Result<RawPlace, Memory>
+    ensures { IfOk result (λ place. place ≡ place_of_text text.now) }
+{
+    match trex_decimal::whole(text) {
+        Some(at) => Ok(RawPlace::At(at)),
+        None => Ok(RawPlace::Named(Name::of(alloc, text)?)),
+    }
+}
+
+/// Where an instruction's write begins.
+fn place_told(alloc: Global, item: &Value) -> Result<Option<RawPlace>, Memory>
+    ensures { IfOk result (λ place. place ≡ told row.write_offset (view item.now)) }
+{
+    match text_told(item, "pkt_offset") {
+        Some(text) => Ok(Some(place_of(alloc, text)?)),
         None => Ok(None),
     }
 }
@@ -160,13 +142,12 @@ fn tuple(name: Name, item: &Value) -> Option<RawInstr>
     })
 }
 
-/// A write.
+/// A write at a place.
 #[tactic(auto, unfolding(crate::specs::Operands::write_wrong))]
-fn write(name: Name, item: &Value) -> Option<RawInstr>
-    ensures value { option_map instruction result ≡ (if write_wrong (view item.now) then None else Some (write name (view item.now))) }
+fn write(name: Name, place: RawPlace, item: &Value) -> Option<RawInstr>
+    ensures value { option_map instruction result ≡ (if write_wrong (view item.now) then None else Some (write name place (view item.now))) }
     ensures range { IfSome result (λ instr. IsRawInstr (instruction instr)) }
 {
-    let place = place_told(item, "pkt_offset")?;
     let add = signed_told(item, "add_value")?;
     let big = bool_told(item, "is_big_endian", true)?;
     Some(RawInstr::Write {
@@ -177,13 +158,13 @@ fn write(name: Name, item: &Value) -> Option<RawInstr>
     })
 }
 
-/// A masked write.
+/// A masked write at a place.
 #[tactic(auto, unfolding(crate::specs::Operands::write_mask_wrong))]
-fn write_mask(name: Name, item: &Value) -> Option<RawInstr>
-    ensures value { option_map instruction result ≡ (if write_mask_wrong (view item.now) then None else Some (write_mask name (view item.now))) }
+fn write_mask(name: Name, place: RawPlace, item: &Value) -> Option<RawInstr>
+    ensures value { option_map instruction result
+        ≡ (if write_mask_wrong (view item.now) then None else Some (write_mask name place (view item.now))) }
     ensures range { IfSome result (λ instr. IsRawInstr (instruction instr)) }
 {
-    let place = place_told(item, "pkt_offset")?;
     let add = signed_told(item, "add_value")?;
     let big = bool_told(item, "is_big_endian", true)?;
     let cast = size_told(item, "pkt_cast_size")?;
@@ -247,8 +228,14 @@ fn instr_by(
         },
         InstrWord::RandLimit => rand_limit(name, seed, item),
         InstrWord::Tuple => tuple(name, item),
-        InstrWord::Write => write(name, item),
-        InstrWord::WriteMask => write_mask(name, item),
+        InstrWord::Write => match place_told(alloc, item)? {
+            Some(place) => write(name, place, item),
+            None => None,
+        },
+        InstrWord::WriteMask => match place_told(alloc, item)? {
+            Some(place) => write_mask(name, place, item),
+            None => None,
+        },
         _ => Some(RawInstr::Trim { name }),
     })
 }

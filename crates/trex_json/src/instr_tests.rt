@@ -238,7 +238,7 @@ fn the_operands_of_variables_are_of_their_kinds(rt: HostRuntime) -> Result<(), F
 #[test]
 fn the_operands_of_other_instructions_are_of_their_kinds(rt: HostRuntime) -> Result<(), Fail> {
     let wrong = at(Rule::BadOperand, 1);
-    let unread = whole(Rule::Unbuilt);
+    let missing = at(Rule::BadField, 1);
     for (instr, expected) in [
         (
             r#"{"type":"write_flow_var","name":"v","pkt_offset":"013","add_value":-9223372036854775808,"is_big_endian":false}"#,
@@ -251,9 +251,25 @@ fn the_operands_of_other_instructions_are_of_their_kinds(rt: HostRuntime) -> Res
         ),
         (
             r#"{"type":"write_flow_var","name":"v","pkt_offset":"IP.src"}"#,
-            unread,
+            missing,
         ),
-        (r#"{"type":"write_mask_flow_var","pkt_offset":5.0}"#, unread),
+        (
+            r#"{"type":"write_flow_var","name":"v","pkt_offset":"Ethernet.src"}"#,
+            None,
+        ),
+        (
+            r#"{"type":"write_flow_var","name":"v","pkt_offset":5.0}"#,
+            missing,
+        ),
+        (
+            r#"{"type":"write_flow_var","name":"v","pkt_offset":18446744073709551616}"#,
+            missing,
+        ),
+        (
+            r#"{"type":"write_flow_var","name":"v","pkt_offset":["IP.src"]}"#,
+            wrong,
+        ),
+        (r#"{"type":"write_mask_flow_var","pkt_offset":5.0}"#, wrong),
         (
             r#"{"type":"write_flow_var","name":"v","pkt_offset":13,"add_value":9223372036854775808}"#,
             wrong,
@@ -543,6 +559,62 @@ fn writes_and_fixes_keep_rules(rt: HostRuntime) -> Result<(), Fail> {
     Ok(())
 }
 
+#[test]
+fn a_field_comes_after_stamps_and_before_places(rt: HostRuntime) -> Result<(), Fail> {
+    let source = r#"{"type":"write_flow_var","name":"v","pkt_offset":"IP.src"}"#;
+    let port = r#"{"type":"write_flow_var","name":"v","pkt_offset":"TCP.sport"}"#;
+    let tag = r#"{"type":"write_flow_var","name":"v","pkt_offset":"Dot1Q.tci"}"#;
+    let version = r#"{"type":"write_flow_var","name":"v","pkt_offset":"IP.vihl"}"#;
+    let masked =
+        r#"{"type":"write_mask_flow_var","name":"v","pkt_offset":"IP.src","pkt_cast_size":8,"mask":1}"#;
+    let past = r#"{"type":"write_flow_var","name":"v","pkt_offset":60}"#;
+    let no_header = r#"{"type":"fix_checksum_ipv4","pkt_offset":15}"#;
+    for (binary, flow, instrs, expected) in [
+        (UDP_60, None, [FOUR, source].as_slice(), None),
+        (UDP_60, None, &[FOUR, port], at(Rule::BadField, 1)),
+        (UDP_60, None, &[FOUR, tag], at(Rule::BadField, 1)),
+        (UDP_60, None, &[VARIABLE, masked], at(Rule::BadField, 1)),
+        (UDP_60, None, &[FOUR, version], at(Rule::BadField, 1)),
+        (
+            UDP_60,
+            None,
+            &[VARIABLE, version, FIX],
+            at(Rule::WriteOnShape, 1),
+        ),
+        (UDP_60, None, &[port, source], at(Rule::UnknownVariable, 0)),
+        (
+            UDP_60,
+            None,
+            &[FINE, TRIM, TRIM, FOUR, port],
+            at(Rule::TwoTrims, 2),
+        ),
+        (
+            UDP_60,
+            None,
+            &[LENGTH, TRIM, FOUR, port],
+            at(Rule::TrimRange, 1),
+        ),
+        (LONG_29, Some(3), &[FOUR, port], whole(Rule::NoRoomForStamp)),
+        (UDP_60, None, &[FOUR, past, port], at(Rule::BadField, 2)),
+        (
+            UDP_60,
+            None,
+            &[FOUR, no_header, port],
+            at(Rule::BadField, 2),
+        ),
+        (
+            UDP_60,
+            None,
+            &[FINE, TRIM, FOUR, source],
+            at(Rule::WriteRoom, 3),
+        ),
+    ] {
+        let found = refused(rt.alloc(), binary, flow, instrs)?;
+        assert_eq!(rt; found, expected, "{expected:?}");
+    }
+    Ok(())
+}
+
 /// So many equal instructions, and one more at the end.
 fn many(alloc: Global, count: usize, last: &str) -> Result<String, AllocError> {
     let mut instrs: Vec<&str> = Vec::new(alloc);
@@ -561,7 +633,8 @@ fn there_are_at_most_256_instructions(rt: HostRuntime) -> Result<(), Fail> {
         (255, fix, None),
         (255, "1", at(Rule::BadInstruction, 255)),
         (256, "1", whole(Rule::TooManyInstructions)),
-        (256, named, whole(Rule::Unbuilt)),
+        (256, named, whole(Rule::TooManyInstructions)),
+        (255, named, at(Rule::UnknownVariable, 255)),
     ] {
         let Ok(text) = many(rt.alloc(), count, last) else {
             return Err(Fail::from("memory"));

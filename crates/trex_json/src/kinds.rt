@@ -3,10 +3,10 @@ ghost use Rattle.std.specs.Option.{ForSome};
 ghost use Rattle.serde_json.specs.View.{view};
 ghost use Rattle.trex_fields.specs.Bytes.{IsSize};
 ghost use Rattle.serde_json.specs.Find.{as_bool};
-ghost use Rattle.trex_json.specs.Kinds.{an_object, an_array, at_most, whole, scaled, decimal, id_of, next_id, mode_of_word, mode_word, rate_of_word, rate_kind, latency_word, a_size, a_segment, a_signed, shift_of, a_shift, a_place, an_op, instr_word};
+ghost use Rattle.trex_json.specs.Kinds.{an_object, an_array, at_most, whole, scaled, decimal, id_of, next_id, mode_of_word, mode_word, rate_of_word, rate_kind, latency_word, a_size, a_segment, a_signed, shift_of, a_shift, an_op, instr_word};
 
 use serde_json::Value;
-use trex_profile::{RateKind, RawPlace};
+use trex_profile::RateKind;
 use trex_vars::Op;
 
 /// The word of a mode.
@@ -187,13 +187,6 @@ pub(crate) fn a_shift(value: &Value) -> Option<i8>
     ensures within { IfSome result (λ n. (negsuc 62 ≤ℤ n) × (n ≤ℤ pos 63)) }
 {
     shift_of(a_signed(value)?)
-}
-
-/// The byte at which a write begins.
-pub(crate) fn a_place(value: &Value) -> Option<RawPlace>
-    ensures { result ≡ a_place (view value.now) }
-{
-    Some(RawPlace::At(whole(value, u64::MAX)?))
 }
 
 /// How a variable goes from packet to packet.

@@ -3,12 +3,12 @@ ghost use Rattle.std.specs.Option.{ForSome};
 ghost use Rattle.serde_json.specs.View.{view};
 ghost use Rattle.serde_json.specs.Find.{as_bool, as_str};
 ghost use Rattle.trex_fields.specs.Bytes.{IsSize};
-ghost use Rattle.trex_json.specs.Kinds.{an_object, an_array, whole, scaled, decimal, next_id, mode_word, rate_kind, latency_word, a_size, a_segment, a_signed, a_shift, a_place, an_op, instr_word};
+ghost use Rattle.trex_json.specs.Kinds.{an_object, an_array, whole, scaled, decimal, next_id, mode_word, rate_kind, latency_word, a_size, a_segment, a_signed, a_shift, an_op, instr_word};
 ghost use Rattle.trex_json.specs.Names.{under, asked};
 
 use crate::kinds::{self, InstrWord, ModeWord};
 use serde_json::Value;
-use trex_profile::{RateKind, RawPlace};
+use trex_profile::RateKind;
 use trex_vars::Op;
 
 /// What stands under a name of an object. A null counts as absent.
@@ -148,13 +148,6 @@ pub(crate) fn shift_told(object: &Value, name: &str) -> Option<i8>
         None => Some(0),
         Some(value) => kinds::a_shift(value),
     }
-}
-
-/// The byte at which a write begins, under a name.
-pub(crate) fn place_told(object: &Value, name: &str) -> Option<RawPlace>
-    ensures { result ≡ asked name.now a_place None (view object.now) }
-{
-    kinds::a_place(under(object, name)?)
 }
 
 /// How a variable goes from packet to packet, under a name.

@@ -1,5 +1,4 @@
 ghost use Rattle.std.specs.Prelude.{◌≡◌, ℕ, ◌≤◌, ◌^◌, List, length, map, All, Option, None, Some, IfOk, option_map, if◌then◌else◌};
-ghost use Rattle.std.specs.List.{list_any};
 ghost use Rattle.std.specs.Option.{ForSome};
 ghost use Rattle.serde_json.specs.View.{view};
 ghost use Rattle.trex_profile.specs.Instruction.{Instruction, instruction, IsRawInstr};
@@ -8,10 +7,10 @@ ghost use Rattle.trex_profile.specs.Stream.{raw_stream, IsRawStream};
 ghost use Rattle.trex_profile.specs.Answer.{Gives};
 ghost use Rattle.trex_json.specs.Names.{value};
 ghost use Rattle.trex_json.specs.Rows as row;
-ghost use Rattle.trex_json.specs.Shape.{field_rules, fields, packet_wrong, items, names_field, unbuilt, flow_wrong, flow_of, vm_wrong, instrs_of, work_rules, stream_rules, stream_of};
+ghost use Rattle.trex_json.specs.Shape.{field_rules, fields, packet_wrong, items, unbuilt, flow_wrong, flow_of, vm_wrong, instrs_of, work_rules, stream_rules, stream_of};
 
 use crate::binary::bytes_told;
-use crate::instr::{each_instr, name_fields};
+use crate::instr::each_instr;
 use crate::kinds::{an_array, an_object};
 use crate::mode::mode_of;
 use crate::names::{bool_told, gap_told, latency_told, next_told, object_told, under, whole_told};
@@ -96,22 +95,12 @@ fn items_of(stream: &Value) -> Option<&[Value]>
     }
 }
 
-/// Whether an instruction of a stream writes at the name of a field.
-fn names_fields(stream: &Value) -> bool
-    ensures { result ≡ list_any names_field (items (view stream.now)) }
-{
-    match items_of(stream) {
-        Some(items) => name_fields(items),
-        None => false,
-    }
-}
-
-/// Whether a stream has a form that isn't read.
+/// Whether a packet has a form that isn't read.
 #[tactic(auto, unfolding(crate::specs::Shape::unbuilt))]
-fn is_unbuilt(packet: &Value, stream: &Value) -> bool
-    ensures { result ≡ unbuilt (view packet.now) (view stream.now) }
+fn is_unbuilt(packet: &Value) -> bool
+    ensures { result ≡ unbuilt (view packet.now) }
 {
-    under(packet, "binary").is_none() || names_fields(stream)
+    under(packet, "binary").is_none()
 }
 
 /// The flow number of a stream, where its flow is of its kind: none where it has no flow.
@@ -164,7 +153,7 @@ pub(crate) fn stream_of(alloc: Global, id: u32, stream: &Value) -> Result<RawStr
 {
     let fields = fields_of(stream)?;
     let packet = packet_of(stream).ok_or(StreamFault::of_stream(Rule::BadPacket))?;
-    if is_unbuilt(packet, stream) {
+    if is_unbuilt(packet) {
         return Err(StreamFault::of_stream(Rule::Unbuilt));
     }
     let template = bytes_told(alloc, packet, "binary")?.ok_or(StreamFault::of_stream(

@@ -19,8 +19,8 @@ use Rattle.trex_vm.proofs.Ends.{AreBetween, trimmed-between}
 use Rattle.trex_profile.specs.declared.rule.Rule.{Rule}
 use Rattle.trex_profile.specs.declared.rule.Rule.TheVariants.{TwoTrims, TrimRange, NoRoomForStamp, WriteRoom, BadFix, WriteOnShape}
 use Rattle.trex_profile.specs.declared.step.Step.{Step}
-use Rattle.trex_profile.specs.declared.step.Step.TheVariants.{Makes, Does, FixesHeader, FixesSegment}
-use Rattle.trex_profile.specs.InstrRules.{does, twice_rule, trim_rule, room_rule, fix_wrong, fix_rule, shape_rule, header_wrong, length_rules, place_rules}
+use Rattle.trex_profile.specs.declared.step.Step.TheVariants.{Makes, Does, MissesField, FixesHeader, FixesSegment}
+use Rattle.trex_profile.specs.InstrRules.{does, twice_rule, trim_rule, field_rule, room_rule, fix_wrong, fix_rule, shape_rule, header_wrong, length_rules, place_rules}
 use Rattle.trex_profile.specs.Order.{first, first_each}
 use Rattle.trex_profile.specs.Refusal.{rule, rule_there}
 use Rattle.trex_profile.specs.Steps.{instrs_of, program_of}
@@ -62,6 +62,7 @@ finds template room (s ∷ steps) none =
 -- a step is one trim or none
 count-does : (s : Step) → count_by is_trim (instrs_of s) ≡ (if does is_trim s then 1 else 0)
 count-does Makes = refl
+count-does MissesField = refl
 count-does (Does (Write from at add big)) = refl
 count-does (Does (WriteMask from at cast mask shift add big)) = refl
 count-does (Does (FixIpv4 at)) = refl
@@ -146,7 +147,8 @@ accepted vars template stamped steps lengths places =
     let shortest = least_length vars program whole in
     let room = room_of shortest stamped in
     let three = three-none (first_each (twice_rule steps) 0 steps) (first_each (trim_rule vars whole) 0 steps) (rule NoRoomForStamp (stamped && nat_lt shortest 30)) lengths in
-    let further = three-none (first_each (room_rule room) 0 steps) (first_each (fix_rule template room) 0 steps) (first_each (shape_rule program) 0 steps) places in
+    let fields = first-none (first_each field_rule 0 steps) (first_each (room_rule room) 0 steps ∷ first_each (fix_rule template room) 0 steps ∷ first_each (shape_rule program) 0 steps ∷ []) places in
+    let further = three-none (first_each (room_rule room) 0 steps) (first_each (fix_rule template room) 0 steps) (first_each (shape_rule program) 0 steps) fields.1 in
     let one = (once [] steps three.0).1 refl in
     let few : count_by is_trim program ≤ 1 = omega (arith, count-program steps) in
     all-six (nat_le (count_by is_trim program) 1) (list_any (trim_wrong vars whole) program) (stamped && nat_lt shortest 30) (list_any (writes_past room) program)

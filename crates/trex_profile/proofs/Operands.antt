@@ -3,6 +3,7 @@ use Rattle.std.proofs.Common.{◌≡◌, inl, inr, ℕ, ◌+◌, ◌≤◌, ◌<
 use Rattle.std.specs.List.{AllByRecursion, find}
 use Rattle.std.proofs.lemmas.List.Elements.{All-from_recursion, recursion_from_All}
 use Rattle.trex_merge.proofs.Lists.{all-append}
+use Rattle.trex_layers.specs.declared.places.Layers.{Layers}
 use Rattle.trex_fields.specs.Bytes.{IsSize}
 use Rattle.std.specs.Prelude.{unwrap_or}
 use Rattle.trex_vm.specs.declared.instr.Instr.{Instr}
@@ -11,10 +12,10 @@ use Rattle.trex_vm.specs.Program.{TakesFrom, IsFormed, AreOperandsOf}
 use Rattle.trex_vm.specs.declared.instr.L4Kind.TheVariants.{Tcp, Udp}
 use Rattle.trex_vm.specs.declared.instr.Instr.TheVariants.{Write as WriteInstr, WriteMask as WriteMaskInstr, Trim as TrimInstr}
 use Rattle.trex_profile.specs.declared.step.Step.{Step}
-use Rattle.trex_profile.specs.declared.step.Step.TheVariants.{Makes, Does, FixesHeader, FixesSegment}
+use Rattle.trex_profile.specs.declared.step.Step.TheVariants.{Makes, Does, MissesField, FixesHeader, FixesSegment}
 use Rattle.trex_profile.specs.Given.{Given, givens, has_name, operand_of}
 use Rattle.trex_profile.specs.Instruction.{Instruction, FlowVar, ListVar, RandLimit, Tuple, Write, WriteMask, FixIpv4, FixHw, Trim, IsRawInstr}
-use Rattle.trex_profile.specs.Steps.{variables_from, byte_at, fixes, step, steps_of, instrs_of, program_of}
+use Rattle.trex_profile.specs.Steps.{variables_from, byte_at, write_at, fixes, step, steps_of, instrs_of, program_of}
 use Rattle.trex_profile.proofs.Naming.{var_after}
 
 -- an operand is one of so many variables, and of a size that is written
@@ -96,27 +97,33 @@ fixes-in count l2 l3 l4 = by_tests (l4 == 11) (l4 == 13)
     by_tests false true = ((tt, tt), ((tt, tt), tt))
     by_tests false false = ((tt, tt), tt)
 
+-- the instruction of a write, where there is a byte at which it begins
+write-in : (count : ℕ) (write : ℕ → Instr) (byte : Option ℕ) → ((at : ℕ) → IsIn count (write at)) → AllByRecursion (IsIn count) (instrs_of (write_at write byte))
+write-in count write None known = tt
+write-in count write (Some at) known = (known at, tt)
+
 -- the instructions of each step
-step-in : (count : ℕ) (names : List Given) (x : Instruction) → AllByRecursion (λ (g : Given). IsOperand count g.operand) names → IsRawInstr x
-    → AllByRecursion (IsIn count) (instrs_of (step names x))
-step-in count names (FlowVar name size op init min max step) known raw = tt
-step-in count names (ListVar name size op step values) known raw = tt
-step-in count names (RandLimit name size min max limit seed) known raw = tt
-step-in count names (Tuple name ip_min ip_max port_min port_max limit) known raw = tt
-step-in count names (Write name place add big) known raw =
-    by_operand count (operand_of names name) (λ from. Does (WriteInstr from (byte_at place) add big)) (named-operand count name names known) (λ operand is. ((is.0, is.1), tt))
-step-in count names (WriteMask name place cast mask shift add big) known raw =
-    by_operand count (operand_of names name) (λ from. Does (WriteMaskInstr from (byte_at place) cast mask shift add big)) (named-operand count name names known)
-    (λ operand is. ((is.0, raw), tt))
-step-in count names (FixIpv4 at) known raw = ((tt, tt), tt)
-step-in count names (FixHw l2 l3 l4) known raw = fixes-in count l2 l3 l4
-step-in count names (Trim name) known raw =
+step-in : (layers : Layers) (count : ℕ) (names : List Given) (x : Instruction) → AllByRecursion (λ (g : Given). IsOperand count g.operand) names → IsRawInstr x
+    → AllByRecursion (IsIn count) (instrs_of (step layers names x))
+step-in layers count names (FlowVar name size op init min max step) known raw = tt
+step-in layers count names (ListVar name size op step values) known raw = tt
+step-in layers count names (RandLimit name size min max limit seed) known raw = tt
+step-in layers count names (Tuple name ip_min ip_max port_min port_max limit) known raw = tt
+step-in layers count names (Write name place add big) known raw =
+    by_operand count (operand_of names name) (λ from. write_at (λ at. WriteInstr from at add big) (byte_at layers from.size place)) (named-operand count name names known)
+    (λ operand is. write-in count (λ at. WriteInstr operand at add big) (byte_at layers operand.size place) (λ at. (is.0, is.1)))
+step-in layers count names (WriteMask name place cast mask shift add big) known raw =
+    by_operand count (operand_of names name) (λ from. write_at (λ at. WriteMaskInstr from at cast mask shift add big) (byte_at layers cast place)) (named-operand count name names known)
+    (λ operand is. write-in count (λ at. WriteMaskInstr operand at cast mask shift add big) (byte_at layers cast place) (λ at. (is.0, raw)))
+step-in layers count names (FixIpv4 at) known raw = ((tt, tt), tt)
+step-in layers count names (FixHw l2 l3 l4) known raw = fixes-in count l2 l3 l4
+step-in layers count names (Trim name) known raw =
     by_operand count (operand_of names name) (λ from. Does (TrimInstr from)) (named-operand count name names known) (λ operand is. ((is.0, tt), tt))
 
-steps-in : (count : ℕ) (names : List Given) (xs : List Instruction) → AllByRecursion (λ (g : Given). IsOperand count g.operand) names → AllByRecursion IsRawInstr xs
-    → AllByRecursion (λ (s : Step). AllByRecursion (IsIn count) (instrs_of s)) (map (step names) xs)
-steps-in count names [] known raw = tt
-steps-in count names (x ∷ xs) known raw = (step-in count names x known raw.0, steps-in count names xs known raw.1)
+steps-in : (layers : Layers) (count : ℕ) (names : List Given) (xs : List Instruction) → AllByRecursion (λ (g : Given). IsOperand count g.operand) names → AllByRecursion IsRawInstr xs
+    → AllByRecursion (λ (s : Step). AllByRecursion (IsIn count) (instrs_of s)) (map (step layers names) xs)
+steps-in layers count names [] known raw = tt
+steps-in layers count names (x ∷ xs) known raw = (step-in layers count names x known raw.0, steps-in layers count names xs known raw.1)
 
 program-in : (count : ℕ) (steps : List Step) → AllByRecursion (λ (s : Step). AllByRecursion (IsIn count) (instrs_of s)) steps → AllByRecursion (IsIn count) (program_of steps)
 program-in count [] known = tt
@@ -136,27 +143,28 @@ steps-taken count [] known = tt
 steps-taken count (s ∷ steps) known =
     (All-from_recursion (TakesFrom count) (instrs_of s) (taken count (instrs_of s) known.0), steps-taken count steps known.1)
 
-of_instrs : (seed : ℕ) (xs : List Instruction) → All IsRawInstr xs
-    → AllByRecursion (λ (s : Step). AllByRecursion (IsIn (length (variables_from seed 0 xs))) (instrs_of s)) (steps_of xs)
-of_instrs seed xs raw =
+of_instrs : (layers : Layers) (seed : ℕ) (xs : List Instruction) → All IsRawInstr xs
+    → AllByRecursion (λ (s : Step). AllByRecursion (IsIn (length (variables_from seed 0 xs))) (instrs_of s)) (steps_of layers xs)
+of_instrs layers seed xs raw =
     let all = recursion_from_All IsRawInstr xs raw in
     let counted = count-variables seed 0 0 xs in
     let count = length (variables_from seed 0 xs) in
-    steps-in count (givens 0 xs) xs (givens-operands 0 xs all count (omega arith)) all
+    steps-in layers count (givens 0 xs) xs (givens-operands 0 xs all count (omega arith)) all
 
 -- the operands of a stream's program
-pub program-operands : (seed : ℕ) (xs : List Instruction) → All IsRawInstr xs → AreOperandsOf (variables_from seed 0 xs) (program_of (steps_of xs))
-program-operands seed xs raw =
+pub program-operands : (layers : Layers) (seed : ℕ) (xs : List Instruction) → All IsRawInstr xs → AreOperandsOf (variables_from seed 0 xs) (program_of (steps_of layers xs))
+program-operands layers seed xs raw =
     let count = length (variables_from seed 0 xs) in
-    let known = program-in count (steps_of xs) (of_instrs seed xs raw) in
+    let program = program_of (steps_of layers xs) in
+    let known = program-in count (steps_of layers xs) (of_instrs layers seed xs raw) in
     record {
-      operands = All-from_recursion (TakesFrom count) (program_of (steps_of xs)) (taken count (program_of (steps_of xs)) known);
-      formed = All-from_recursion IsFormed (program_of (steps_of xs)) (formed count (program_of (steps_of xs)) known);
+      operands = All-from_recursion (TakesFrom count) program (taken count program known);
+      formed = All-from_recursion IsFormed program (formed count program known);
     }
 
 -- those of each step
-pub steps-operands : (seed : ℕ) (xs : List Instruction) → All IsRawInstr xs
-    → All (λ (s : Step). All (TakesFrom (length (variables_from seed 0 xs))) (instrs_of s)) (steps_of xs)
-steps-operands seed xs raw =
+pub steps-operands : (layers : Layers) (seed : ℕ) (xs : List Instruction) → All IsRawInstr xs
+    → All (λ (s : Step). All (TakesFrom (length (variables_from seed 0 xs))) (instrs_of s)) (steps_of layers xs)
+steps-operands layers seed xs raw =
     let count = length (variables_from seed 0 xs) in
-    All-from_recursion (λ (s : Step). All (TakesFrom count) (instrs_of s)) (steps_of xs) (steps-taken count (steps_of xs) (of_instrs seed xs raw))
+    All-from_recursion (λ (s : Step). All (TakesFrom count) (instrs_of s)) (steps_of layers xs) (steps-taken count (steps_of layers xs) (of_instrs layers seed xs raw))

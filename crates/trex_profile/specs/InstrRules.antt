@@ -1,15 +1,16 @@
 -- The rules on a stream's instructions (own). Each is looked at over all of them in order, before the next rule.
-use Rattle.std.specs.Prelude.{ℕ, ◌==◌, ◌&&◌, ◌||◌, not, nat_lt, Bool, false, List, [], ◌∷◌, length, take, Option, None, Some, is_none, is_some}
+use Rattle.std.specs.Prelude.{ℕ, ◌==◌, ◌&&◌, ◌||◌, not, nat_lt, Bool, true, false, List, [], ◌∷◌, length, take, Option, None, Some, is_none, is_some}
 use Rattle.std.specs.List.{list_any}
+use Rattle.trex_layers.specs.declared.places.Layers.{Layers}
 use Rattle.trex_vars.specs.Variable.{Variable}
 use Rattle.trex_vars.specs.Check.{fault_of}
 use Rattle.trex_vm.specs.declared.instr.Instr.{Instr}
 use Rattle.trex_vm.specs.Fix.{header_length}
 use Rattle.trex_vm.specs.Rules.{least_length, room_of, is_trim, trim_wrong, writes_past, misses_header, touches_shape}
 use Rattle.trex_profile.specs.declared.refusal.Breach.{Breach}
-use Rattle.trex_profile.specs.declared.rule.Rule.TheVariants.{VarName, VarRange, UnknownVariable, TwoTrims, TrimRange, NoRoomForStamp, WriteRoom, BadFix, WriteOnShape}
+use Rattle.trex_profile.specs.declared.rule.Rule.TheVariants.{VarName, VarRange, UnknownVariable, TwoTrims, TrimRange, NoRoomForStamp, BadField, WriteRoom, BadFix, WriteOnShape}
 use Rattle.trex_profile.specs.declared.step.Step.{Step}
-use Rattle.trex_profile.specs.declared.step.Step.TheVariants.{Makes, Does, FixesHeader, FixesSegment}
+use Rattle.trex_profile.specs.declared.step.Step.TheVariants.{Makes, Does, MissesField, FixesHeader, FixesSegment}
 use Rattle.trex_profile.specs.Given.{Given, variable_name, is_empty_name, given_by, givens, is_given}
 use Rattle.trex_profile.specs.Instruction.{Instruction}
 use Rattle.trex_profile.specs.Order.{first, first_each}
@@ -31,9 +32,9 @@ has_fault (Some variable) = is_some (fault_of variable)
 abbrev pub range_rule : ℕ → ℕ → Instruction → Option Breach
 range_rule seed place x = rule_there VarRange place (has_fault (variable_at seed place x))
 
--- an instruction uses a name that isn't given
-abbrev pub unknown_rule : List Given → ℕ → Instruction → Option Breach
-unknown_rule names place x = rule_there UnknownVariable place (is_none (resolved names x))
+-- an instruction uses the name of a variable that isn't given
+abbrev pub unknown_rule : Layers → List Given → ℕ → Instruction → Option Breach
+unknown_rule layers names place x = rule_there UnknownVariable place (is_none (resolved layers names x))
 
 -- a test holds of an instruction of the step
 abbrev pub does : (Instr → Bool) → Step → Bool
@@ -47,10 +48,22 @@ twice_rule steps place s = rule_there TwoTrims place (does is_trim s && list_any
 abbrev pub trim_rule : List Variable → ℕ → ℕ → Step → Option Breach
 trim_rule vars whole place s = rule_there TrimRange place (does (trim_wrong vars whole) s)
 
+-- a write of a step has no field that is long enough
+abbrev pub misses_field : Step → Bool
+misses_field Makes = false
+misses_field (Does instr) = false
+misses_field MissesField = true
+misses_field (FixesHeader at header) = false
+misses_field (FixesSegment ip header kind) = false
+
+abbrev pub field_rule : ℕ → Step → Option Breach
+field_rule place s = rule_there BadField place (misses_field s)
+
 -- the header isn't as long as a fix says
 abbrev pub header_wrong : List ℕ → Step → Bool
 header_wrong template Makes = false
 header_wrong template (Does instr) = false
+header_wrong template MissesField = false
 header_wrong template (FixesHeader at header) = not (header == header_length template at)
 header_wrong template (FixesSegment ip header kind) = not (header == header_length template ip)
 
@@ -70,11 +83,11 @@ abbrev pub shape_rule : List Instr → ℕ → Step → Option Breach
 shape_rule program place s = rule_there WriteOnShape place (does (touches_shape program) s)
 
 -- the rules on the names of instructions, in their order
-unfoldable pub names_rules : ℕ → List Instruction → Option Breach
-names_rules seed instrs = first (
+unfoldable pub names_rules : Layers → ℕ → List Instruction → Option Breach
+names_rules layers seed instrs = first (
     first_each (name_rule instrs) 0 instrs
     ∷ first_each (range_rule seed) 0 instrs
-    ∷ first_each (unknown_rule (givens 0 instrs)) 0 instrs
+    ∷ first_each (unknown_rule layers (givens 0 instrs)) 0 instrs
     ∷ [])
 
 -- the rules on the packets' lengths, in their order
@@ -88,7 +101,8 @@ length_rules vars whole stamped steps = first (
 -- the rules on the places that are written, in their order: so many bytes stand in front of the latency header
 unfoldable pub place_rules : List ℕ → ℕ → List Step → Option Breach
 place_rules template room steps = first (
-    first_each (room_rule room) 0 steps
+    first_each field_rule 0 steps
+    ∷ first_each (room_rule room) 0 steps
     ∷ first_each (fix_rule template room) 0 steps
     ∷ first_each (shape_rule (program_of steps)) 0 steps
     ∷ [])

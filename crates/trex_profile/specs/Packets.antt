@@ -1,5 +1,6 @@
 -- The packets of a stream (own).
 use Rattle.std.specs.Prelude.{◌≡◌, ℕ, ◌%◌, ◌^◌, List, ◌++◌, map, Option, option_map, IfSome}
+use Rattle.trex_layers.specs.Layers.{parsed}
 use Rattle.trex_stamp.specs.declared.header.Stamp.{Stamp}
 use Rattle.trex_stamp.specs.Stamp.{stamp_bytes}
 use Rattle.trex_vars.specs.Variable.{Variable}
@@ -13,9 +14,9 @@ use Rattle.trex_profile.specs.Steps.{variables_from, steps_of, program_of}
 abbrev pub variables : Stream → List Variable
 variables s = variables_from s.seed 0 s.instrs
 
--- the program of a stream: its other instructions, in order, each name resolved
+-- The program of a stream: its other instructions, in order, each name resolved. A field lies where the headers of the template are.
 abbrev pub program : Stream → List Instr
-program s = program_of (steps_of s.instrs)
+program s = program_of (steps_of (parsed s.template) s.instrs)
 
 -- the latency header of the packet of a number at an absolute time in nanoseconds, where the stream has a flow
 abbrev pub stamp_at : Stream → ℕ → ℕ → Option Stamp

@@ -2,6 +2,7 @@
 use Rattle.std.specs.Prelude.{ℕ, ◌+◌, ◌*◌, ◌^◌, ◌==◌, ◌&&◌, ◌||◌, nat_lt, Bool, false, List, [], ◌∷◌, length, Option, is_some, option_map}
 use Rattle.trex_sched.specs.declared.mode.Mode.{Mode}
 use Rattle.trex_sched.specs.declared.mode.Mode.TheVariants.{Continuous, SingleBurst, MultiBurst}
+use Rattle.trex_layers.specs.Layers.{parsed}
 use Rattle.trex_vm.specs.Rules.{least_length, room_of}
 use Rattle.trex_profile.specs.declared.raw.RateKind.{RateKind}
 use Rattle.trex_profile.specs.declared.raw.RateKind.TheVariants.{Pps, BpsL1, BpsL2}
@@ -10,7 +11,7 @@ use Rattle.trex_profile.specs.declared.refusal.Refusal.{Refusal}
 use Rattle.trex_profile.specs.declared.refusal.Breach.{Breach}
 use Rattle.trex_profile.specs.declared.step.Step.{Step}
 use Rattle.trex_profile.specs.Given.{givens}
-use Rattle.trex_profile.specs.InstrRules.{name_rule, range_rule, unknown_rule, twice_rule, trim_rule, room_rule, fix_rule, shape_rule, names_rules, does_rules}
+use Rattle.trex_profile.specs.InstrRules.{name_rule, range_rule, unknown_rule, twice_rule, trim_rule, field_rule, room_rule, fix_rule, shape_rule, names_rules, does_rules}
 use Rattle.trex_profile.specs.Order.{first, first_each}
 use Rattle.trex_profile.specs.Packets.{variables, program}
 use Rattle.trex_profile.specs.Refusal.{rule, in_stream}
@@ -40,7 +41,7 @@ no_packets (MultiBurst per_burst ibg count) = per_burst == 0
 
 -- what a stream's instructions come to, in order
 abbrev pub steps : Stream → List Step
-steps s = steps_of s.instrs
+steps s = steps_of (parsed s.template) s.instrs
 
 -- the length of a stream's shortest packet
 abbrev pub shortest : Stream → ℕ
@@ -63,7 +64,7 @@ time_rules s = first (
 unfoldable pub value_rules : Stream → Option Breach
 value_rules s = first (
     time_rules s
-    ∷ names_rules s.seed s.instrs
+    ∷ names_rules (parsed s.template) s.seed s.instrs
     ∷ does_rules (variables s) s.template (is_some s.flow) (steps s)
     ∷ [])
 
@@ -76,10 +77,11 @@ value_list s =
     ∷ rule CountZero (no_packets s.mode)
     ∷ first_each (name_rule s.instrs) 0 s.instrs
     ∷ first_each (range_rule s.seed) 0 s.instrs
-    ∷ first_each (unknown_rule (givens 0 s.instrs)) 0 s.instrs
+    ∷ first_each (unknown_rule (parsed s.template) (givens 0 s.instrs)) 0 s.instrs
     ∷ first_each (twice_rule (steps s)) 0 (steps s)
     ∷ first_each (trim_rule (variables s) (length s.template)) 0 (steps s)
     ∷ rule NoRoomForStamp (is_some s.flow && nat_lt (shortest s) 30)
+    ∷ first_each field_rule 0 (steps s)
     ∷ first_each (room_rule (room s)) 0 (steps s)
     ∷ first_each (fix_rule s.template (room s)) 0 (steps s)
     ∷ first_each (shape_rule (program s)) 0 (steps s)

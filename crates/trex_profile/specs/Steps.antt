@@ -1,13 +1,16 @@
 -- What a stream's instructions come to in a program (own).
-use Rattle.std.specs.Prelude.{ℕ, ◌+◌, ◌==◌, List, [], ◌∷◌, ◌++◌, map, Option, None, Some, option_map, option_to_list, unwrap_or, if◌then◌else◌}
+use Rattle.std.specs.Prelude.{ℕ, ◌+◌, ◌==◌, nat_lt, List, [], ◌∷◌, ◌++◌, map, Option, None, Some, option_map, option_to_list, unwrap_or, if◌then◌else◌}
+use Rattle.trex_layers.specs.declared.places.Layers.{Layers}
+use Rattle.trex_fields.specs.declared.places.Place.{Place}
+use Rattle.trex_fields.specs.Fields.{place_by_name}
 use Rattle.trex_vars.specs.Variable.{Variable, Counter, RandLimit as RandLimitVariable, ListOf, Tuple as TupleVariable}
 use Rattle.trex_vm.specs.declared.instr.L4Kind.TheVariants.{Tcp, Udp}
 use Rattle.trex_vm.specs.declared.instr.Instr.{Instr}
 use Rattle.trex_vm.specs.declared.instr.Instr.TheVariants.{Write as WriteInstr, WriteMask as WriteMaskInstr, FixIpv4 as FixIpv4Instr, FixL4, Trim as TrimInstr}
 use Rattle.trex_profile.specs.declared.raw.RawPlace.{RawPlace}
-use Rattle.trex_profile.specs.declared.raw.RawPlace.TheVariants.{At}
+use Rattle.trex_profile.specs.declared.raw.RawPlace.TheVariants.{At, Named}
 use Rattle.trex_profile.specs.declared.step.Step.{Step}
-use Rattle.trex_profile.specs.declared.step.Step.TheVariants.{Makes, Does, FixesHeader, FixesSegment}
+use Rattle.trex_profile.specs.declared.step.Step.TheVariants.{Makes, Does, MissesField, FixesHeader, FixesSegment}
 use Rattle.trex_profile.specs.Instruction.{Instruction, FlowVar, ListVar, RandLimit, Tuple, Write, WriteMask, FixIpv4, FixHw, Trim}
 use Rattle.trex_profile.specs.Given.{Given, givens, operand_of}
 
@@ -29,40 +32,52 @@ abbrev pub variables_from : ℕ → ℕ → List Instruction → List Variable
 variables_from seed place [] = []
 variables_from seed place (x ∷ xs) = option_to_list (variable_at seed place x) ++ variables_from seed (place + 1) xs
 
--- the byte at which a write begins
-abbrev pub byte_at : RawPlace → ℕ
-byte_at (At n) = n
+-- the first byte of a field, where the field is there and has so many bytes
+abbrev pub byte_in : ℕ → Option Place → Option ℕ
+byte_in size None = None
+byte_in size (Some field) = if nat_lt field.size size then None else Some field.at
+
+-- the byte at which a write of so many bytes begins, in a packet with these headers
+abbrev pub byte_at : Layers → ℕ → RawPlace → Option ℕ
+byte_at layers size (At n) = Some n
+byte_at layers size (Named name) = byte_in size (place_by_name layers name)
+
+-- what a write comes to: it misses its field where there is no byte at which it begins
+abbrev pub write_at : (ℕ → Instr) → Option ℕ → Step
+write_at write None = MissesField
+write_at write (Some at) = Does (write at)
 
 -- The fix of an IPv4 header of so many bytes (RFC 791, section 3.1), and for 11 that of the UDP segment behind it (RFC 768), for 13
 -- that of the TCP segment (RFC 793).
 abbrev pub fixes : ℕ → ℕ → ℕ → Step
 fixes l2 l3 l4 = if l4 == 11 then FixesSegment l2 l3 Udp else if l4 == 13 then FixesSegment l2 l3 Tcp else FixesHeader l2 l3
 
--- what an instruction comes to, where the name that it uses is given
-abbrev pub resolved : List Given → Instruction → Option Step
-resolved names (FlowVar name size op init min max step) = Some Makes
-resolved names (ListVar name size op step values) = Some Makes
-resolved names (RandLimit name size min max limit seed) = Some Makes
-resolved names (Tuple name ip_min ip_max port_min port_max limit) = Some Makes
-resolved names (Write name place add big) =
-    option_map (λ from. Does (WriteInstr from (byte_at place) add big)) (operand_of names name)
-resolved names (WriteMask name place cast mask shift add big) =
-    option_map (λ from. Does (WriteMaskInstr from (byte_at place) cast mask shift add big)) (operand_of names name)
-resolved names (FixIpv4 at) = Some (Does (FixIpv4Instr at))
-resolved names (FixHw l2 l3 l4) = Some (fixes l2 l3 l4)
-resolved names (Trim name) = option_map (λ from. Does (TrimInstr from)) (operand_of names name)
+-- what an instruction comes to in a packet with these headers, where the name of the variable that it uses is given
+abbrev pub resolved : Layers → List Given → Instruction → Option Step
+resolved layers names (FlowVar name size op init min max step) = Some Makes
+resolved layers names (ListVar name size op step values) = Some Makes
+resolved layers names (RandLimit name size min max limit seed) = Some Makes
+resolved layers names (Tuple name ip_min ip_max port_min port_max limit) = Some Makes
+resolved layers names (Write name place add big) =
+    option_map (λ from. write_at (λ at. WriteInstr from at add big) (byte_at layers from.size place)) (operand_of names name)
+resolved layers names (WriteMask name place cast mask shift add big) =
+    option_map (λ from. write_at (λ at. WriteMaskInstr from at cast mask shift add big) (byte_at layers cast place)) (operand_of names name)
+resolved layers names (FixIpv4 at) = Some (Does (FixIpv4Instr at))
+resolved layers names (FixHw l2 l3 l4) = Some (fixes l2 l3 l4)
+resolved layers names (Trim name) = option_map (λ from. Does (TrimInstr from)) (operand_of names name)
 
 -- the same, nothing where the name isn't given, which a rule then refuses
-abbrev pub step : List Given → Instruction → Step
-step names x = unwrap_or (resolved names x) Makes
+abbrev pub step : Layers → List Given → Instruction → Step
+step layers names x = unwrap_or (resolved layers names x) Makes
 
 -- what instructions come to
-abbrev pub steps_of : List Instruction → List Step
-steps_of instrs = map (step (givens 0 instrs)) instrs
+abbrev pub steps_of : Layers → List Instruction → List Step
+steps_of layers instrs = map (step layers (givens 0 instrs)) instrs
 
 -- the instructions of a step in a program
 abbrev pub instrs_of : Step → List Instr
 instrs_of Makes = []
+instrs_of MissesField = []
 instrs_of (Does instr) = instr ∷ []
 instrs_of (FixesHeader at header) = FixIpv4Instr at ∷ []
 instrs_of (FixesSegment ip header kind) = FixIpv4Instr ip ∷ FixL4 ip header kind ∷ []

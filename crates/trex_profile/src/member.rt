@@ -7,6 +7,7 @@ use crate::parts::{parts_of, program_for};
 use crate::raw::{RawInstr, RawRate, RawStream};
 use crate::times::period_of;
 use std::alloc::Global;
+use trex_layers::parse;
 use trex_sched::{Leg, Mode, Period};
 use trex_vars::VarSpec;
 use trex_vm::{Program, programs_fit};
@@ -62,7 +63,8 @@ impl Member {
         ensures spec { IfOk result (λ member. IsSpecOf (member_stream member) member.spec) }
     {
         let period = period_of(&raw)?;
-        let parts = parts_of(alloc, raw.seed, &raw.instrs)?;
+        let layers = parse(&raw.template);
+        let parts = parts_of(alloc, &layers, raw.seed, &raw.instrs)?;
         let program = program_for(
             alloc,
             &parts.vars,

@@ -1,6 +1,7 @@
 // The variables and the program of a stream.
 
-ghost use Rattle.std.specs.Prelude.{◌≡◌, ◌≤◌, List, All, IfOk, length, map, true};
+ghost use Rattle.std.specs.Prelude.{◌≡◌, ◌≤◌, ◌^◌, List, All, IfOk, length, map, true};
+ghost use Rattle.trex_layers.specs.Layers.{BeginBelow};
 ghost use Rattle.trex_vars.specs.Variable.{Variable, variable_of};
 ghost use Rattle.trex_vm.specs.Program.{AreOperandsOf, AreSound, TakesFrom, plan_of};
 ghost use Rattle.trex_vm.specs.Rules.{accepts};
@@ -16,6 +17,7 @@ use crate::raw::RawInstr;
 use crate::rules::{length_breach, place_breach};
 use crate::step::{Step, program_of, steps_of, variables_of};
 use std::alloc::Global;
+use trex_layers::Layers;
 use trex_vars::VarSpec;
 use trex_vm::{Program, least_length, room_of};
 
@@ -26,15 +28,22 @@ pub(crate) struct Parts {
     pub(crate) steps: Vec<Step>,
 }
 
-/// The variables of a stream and what its instructions come to, or the first rule on their names that is broken.
+/// The variables of a stream and what its instructions come to in a packet with these headers, or the first rule on their names that is broken.
 #[tactic(auto, unfolding(crate::specs::InstrRules::names_rules))]
-pub(crate) fn parts_of(alloc: Global, seed: u64, instrs: &[RawInstr]) -> Result<Parts, StreamFault>
+pub(crate) fn parts_of(
+    alloc: Global,
+    layers: &Layers,
+    seed: u64,
+    instrs: &[RawInstr],
+) -> Result<Parts, StreamFault>
     requires few { length instrs.now ≤ 256 }
+    requires layers { BeginBelow (2 ^ 31) layers.now }
     requires ranges { All IsRawInstr (map instruction instrs.now) }
     ensures value { Gives {Y = List Variable × List Step} (λ parts. (map variable_of parts.vars.items, parts.steps.items)) result
-        (unless (names_rules seed (map instruction instrs.now)) (variables_from seed 0 (map instruction instrs.now), steps_of (map instruction instrs.now))) }
+        (unless (names_rules layers.now seed (map instruction instrs.now))
+        (variables_from seed 0 (map instruction instrs.now), steps_of layers.now (map instruction instrs.now))) }
     ensures vars { IfOk result (λ parts. map variable_of parts.vars.items ≡ variables_from seed 0 (map instruction instrs.now)) }
-    ensures steps { IfOk result (λ parts. parts.steps.items ≡ steps_of (map instruction instrs.now)) }
+    ensures steps { IfOk result (λ parts. parts.steps.items ≡ steps_of layers.now (map instruction instrs.now)) }
     ensures sound { IfOk result (λ parts. AreSound (map variable_of parts.vars.items)) }
     ensures few { IfOk result (λ parts. length parts.steps.items ≤ 256) }
     ensures operands { IfOk result (λ parts. AreOperandsOf (map variable_of parts.vars.items) (program_of parts.steps.items)) }
@@ -42,7 +51,7 @@ pub(crate) fn parts_of(alloc: Global, seed: u64, instrs: &[RawInstr]) -> Result<
 {
     let names = names_of(alloc, instrs)?;
     let vars = variables_of(alloc, seed, instrs)?;
-    let steps = steps_of(alloc, &names, instrs)?;
+    let steps = steps_of(alloc, layers, &names, instrs)?;
     Ok(Parts { vars, steps })
 }
 

@@ -52,6 +52,8 @@ pub struct RawRate {
 pub enum RawPlace {
     /// A byte of the packet, counted from 0.
     At(u64),
+    /// The first byte of the field of that name, as `IP.src`.
+    Named(Name),
 }
 
 /// What one instruction says, each default filled in. Sizes and casts are numbers of bytes: 1, 2, 4 or 8.

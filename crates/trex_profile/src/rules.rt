@@ -5,7 +5,7 @@ ghost use Rattle.trex_vars.specs.Variable.{variable_of};
 ghost use Rattle.trex_vm.specs.Fix.{header_length};
 ghost use Rattle.trex_vm.specs.Program.{AreSound, TakesFrom};
 ghost use Rattle.trex_vm.specs.Rules.{is_trim, least_length, trim_wrong, writes_past, touches_shape};
-ghost use Rattle.trex_profile.specs.InstrRules.{twice_rule, trim_rule, room_rule, fix_rule, shape_rule, does, fix_wrong, length_rules, place_rules};
+ghost use Rattle.trex_profile.specs.InstrRules.{twice_rule, trim_rule, field_rule, room_rule, fix_rule, shape_rule, does, misses_field, fix_wrong, length_rules, place_rules};
 ghost use Rattle.trex_profile.specs.Order.{first_each};
 ghost use Rattle.trex_profile.specs.Steps.{instrs_of, program_of};
 
@@ -102,6 +102,26 @@ pub(crate) fn length_breach(
     None
 }
 
+/// Whether a step is a write whose field isn't there or is too short.
+fn misses_field(step: &Step) -> bool
+    ensures { result ≡ misses_field step.now }
+{
+    matches!(*step, Step::MissesField)
+}
+
+/// The breach by a write whose field isn't there or is too short.
+fn missed_field(steps: &[Step]) -> Option<Breach>
+    requires { length steps.now ≤ 256 }
+    ensures { result ≡ first_each field_rule 0 steps.now }
+{
+    for (at, step) in steps.iter().enumerate() {
+        if misses_field(step) {
+            return Some(Breach::at_place(at as u32, Rule::BadField));
+        }
+    }
+    None
+}
+
 /// Whether a step is a write that ends after the room.
 fn ends_past(room: usize, step: &Step) -> bool
     ensures { result ≡ does (writes_past room) step.now }
@@ -139,7 +159,7 @@ fn fixes_nothing(template: &[u8], room: usize, step: &Step) -> bool
     ensures { result ≡ fix_wrong template.now room step.now }
 {
     match *step {
-        Step::Makes => false,
+        Step::Makes | Step::MissesField => false,
         Step::Does(instr) => misses_header(template, room, &instr),
         Step::FixesHeader { at, header } => {
             misses_header(template, room, &Instr::FixIpv4 { at })
@@ -172,7 +192,7 @@ fn writes_on_shape(program: &[Instr], step: &Step) -> bool
     ensures { result ≡ does (touches_shape program.now) step.now }
 {
     match *step {
-        Step::Makes => false,
+        Step::Makes | Step::MissesField => false,
         Step::Does(instr) => touches_shape(program, &instr),
         Step::FixesHeader { at, .. } => touches_shape(program, &Instr::FixIpv4 { at }),
         Step::FixesSegment { ip, header, kind } => {
@@ -208,6 +228,9 @@ pub(crate) fn place_breach(
     requires program { program.now ≡ program_of steps.now }
     ensures { result ≡ place_rules template.now room steps.now }
 {
+    if let Some(breach) = missed_field(steps) {
+        return Some(breach);
+    }
     if let Some(breach) = write_past(room, steps) {
         return Some(breach);
     }

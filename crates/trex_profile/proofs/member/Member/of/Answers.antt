@@ -1,6 +1,7 @@
 use Rattle.std.proofs.Common.{rules, ◌≡◌, ℕ, ◌<◌, ◌++◌, Bool, List, true, IfSome, length, map, ap, subst, sym, ◌∙◌, refl, is_some, arith, Option, None, Some, ◌%◌, ◌^◌}
 use Rattle.std.specs.Option.{option_map}
 use Rattle.trex_stamp.specs.declared.header.Stamp.{Stamp}
+use Rattle.trex_layers.specs.Layers.{parsed}
 use Rattle.trex_stamp.specs.Stamp.{stamp_bytes}
 use Rattle.trex_vars.specs.Value.{value_at}
 use Rattle.trex_vars.specs.Variable.{Variable, variable_of}
@@ -19,14 +20,16 @@ pub returns-clause-spec : goal.returns-clause-spec
 returns-clause-spec c =
     let s : Stream = raw_stream c.args.raw in
     let vars : map variable_of c.in_ok-parts.parts.vars.items ≡ variables s =
-    c.in_ok-parts.ensures.vars ∙ ap (λ raws. variables_from c.args.raw.seed 0 (map instruction raws)) c.deref.ensures.value in
-    let steps = c.in_ok-parts.ensures.steps ∙ ap (λ raws. steps_of (map instruction raws)) c.deref.ensures.value in
-    let held_vars : map variable_of c.deref-2.result.now ≡ variables s = ap (map variable_of) c.deref-2.ensures.value ∙ vars in
-    let held_program : program_of c.deref-3.result.now ≡ program s = ap program_of (c.deref-3.ensures.value ∙ steps) in
+    c.in_ok-parts.ensures.vars ∙ ap (λ raws. variables_from c.args.raw.seed 0 (map instruction raws)) c.deref-2.ensures.value in
+    let layers : c.parse-layers.result ≡ parsed s.template = c.parse-layers.ensures.value ∙ ap parsed c.deref.ensures.value in
+    let steps = c.in_ok-parts.ensures.steps ∙ ap (λ raws. steps_of c.parse-layers.result (map instruction raws)) c.deref-2.ensures.value
+    ∙ ap (λ found. steps_of found s.instrs) layers in
+    let held_vars : map variable_of c.deref-3.result.now ≡ variables s = ap (map variable_of) c.deref-3.ensures.value ∙ vars in
+    let held_program : program_of c.deref-4.result.now ≡ program s = ap program_of (c.deref-4.ensures.value ∙ steps) in
     let same : (X : Type 0) (f : List Variable → List Instr → List ℕ → Bool → X)
-    → f (map variable_of c.deref-2.result.now) (program_of c.deref-3.result.now) c.deref-4.result.now c.is_some.result ≡ f (variables s) (program s) s.template (is_some s.flow) =
-    λ X f. ap (λ v. f v (program_of c.deref-3.result.now) c.deref-4.result.now c.is_some.result) held_vars ∙ ap (λ p. f (variables s) p c.deref-4.result.now c.is_some.result) held_program
-    ∙ ap (λ t. f (variables s) (program s) t c.is_some.result) c.deref-4.ensures.value ∙ ap (λ b. f (variables s) (program s) s.template b) c.is_some.ensures in
+    → f (map variable_of c.deref-3.result.now) (program_of c.deref-4.result.now) c.deref-5.result.now c.is_some.result ≡ f (variables s) (program s) s.template (is_some s.flow) =
+    λ X f. ap (λ v. f v (program_of c.deref-4.result.now) c.deref-5.result.now c.is_some.result) held_vars ∙ ap (λ p. f (variables s) p c.deref-5.result.now c.is_some.result) held_program
+    ∙ ap (λ t. f (variables s) (program s) t c.is_some.result) c.deref-5.ensures.value ∙ ap (λ b. f (variables s) (program s) s.template b) c.is_some.ensures in
     let plan : c.in_ok-program.program ≡ plan_of (program s) (variables s) s.template (is_some s.flow) =
     sym (unless-kept _ _ _ c.in_ok-program.ensures.value).1 ∙ same Plan (λ v p t b. plan_of p v t b) in
     let accepted : accepts (variables s) s.template (is_some s.flow) (program s) ≡ true = sym (same Bool (λ v p t b. accepts v t b p)) ∙ c.in_ok-program.ensures.accepts in
