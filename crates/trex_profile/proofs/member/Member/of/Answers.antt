@@ -43,7 +43,7 @@ returns-clause-spec c =
     λ number time flow. elim flow as (λ o. accepts (variables s) s.template (is_some o) (program s) ≡ true → Ends number time o) [
       | None ↦ λ any. tt
       | Some f ↦ λ taken. c.programs_fit.ensures.stamped (program s) (variables s) s.template (stamp f number time) number operands sound taken
-      c.in_ok-period.ensures.at_least c.in_ok-period.ensures.at_most
+          c.in_ok-period.ensures.at_least c.in_ok-period.ensures.at_most
     ] in
     let flow_small : IfSome s.flow (λ flow. flow < 2 ^ 16) = search rules in
     record {
