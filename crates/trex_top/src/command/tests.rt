@@ -83,14 +83,32 @@ fn run<R: Threads + Sync>(
     text: &str,
     failing: Failing,
 ) -> Result<Ran, Fail> {
+    run_over(rt, alloc, line, text.as_bytes(), 10, ROOM, failing)
+}
+
+/// Runs over memory: so many bytes a call, and so many bytes of output.
+fn run_over<R: Threads + Sync>(
+    rt: &R,
+    alloc: Global,
+    line: &str,
+    bytes: &[u8],
+    step: usize,
+    room: usize,
+    failing: Failing,
+) -> Result<Ran, Fail> {
     let mut words = Vec::new(alloc);
     for word in line.split_ascii_whitespace() {
         words.push(String::from_str(alloc, word)?)?;
     }
-    let text = Vec::from_slice(alloc, text.as_bytes())?;
-    let mut input = MemSource::new(text, 10, Vec::from_slice(alloc, &[failing.input])?);
-    let mut out = MemSink::new(alloc, ROOM, 10, Vec::from_slice(alloc, &[failing.out])?)?;
-    let mut notes = MemSink::new(alloc, 1_000, 10, Vec::from_slice(alloc, &[failing.notes])?)?;
+    let bytes = Vec::from_slice(alloc, bytes)?;
+    let mut input = MemSource::new(bytes, step, Vec::from_slice(alloc, &[failing.input])?);
+    let mut out = MemSink::new(alloc, room, step, Vec::from_slice(alloc, &[failing.out])?)?;
+    let mut notes = MemSink::new(
+        alloc,
+        1_000,
+        step,
+        Vec::from_slice(alloc, &[failing.notes])?,
+    )?;
     let mut gates = [Open; 2];
     let status = trex_main(
         rt, alloc, &words, &mut input, &mut out, &mut notes, &mut gates,
@@ -434,4 +452,5 @@ fn cycles_of_three_and_bursts_without_end(rt: HostRuntime) -> Result<(), Fail> {
     assert_sent(&rt, alloc, "run --limit 1", &endless, &[(0, 1)])
 }
 
+mod hostile;
 mod packets;

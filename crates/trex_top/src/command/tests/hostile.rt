@@ -1,0 +1,232 @@
+// Reads and writes that fail, and profiles that are made to do harm.
+
+use super::{CAPTURE, Failing, NONE, REPORT, assert_left, burst, run_over};
+use crate::Status;
+use std::alloc::Global;
+use std::process::Abort;
+use std::test::Fail;
+use std::thread::Threads;
+use trex_pcap::{header, record_header};
+
+/// How many bytes the captures here may have.
+const SMALL_ROOM: usize = 20_000;
+
+/// How many bytes a profile's text may have.
+const LONGEST: usize = 33_554_432;
+
+/// Text, so many times over.
+fn repeated(alloc: Global, text: &str, count: usize) -> Result<String, Fail> {
+    let mut all = String::new(alloc);
+    for _ in 0..count {
+        all.push_str(text)?;
+    }
+    Ok(all)
+}
+
+#[test]
+fn each_write_of_a_run_that_fails_leaves_what_stood_before(rt: HostRuntime) -> Result<(), Fail> {
+    let alloc = rt.alloc();
+    let thirds = burst(alloc, 3, "pps", "3")?;
+    let text = thirds.as_bytes();
+    for call in 1..=CAPTURE.len() {
+        let failing = Failing {
+            out: call as u64,
+            ..NONE
+        };
+        let ran = run_over(&rt, alloc, "run", text, 1, SMALL_ROOM, failing)?;
+        assert_left(
+            &rt,
+            &ran,
+            Status::OutFault,
+            &CAPTURE[..call - 1],
+            b"write fault\n",
+        );
+    }
+    for call in 1..=REPORT.len() {
+        let failing = Failing {
+            notes: call as u64,
+            ..NONE
+        };
+        let ran = run_over(&rt, alloc, "run", text, 1, SMALL_ROOM, failing)?;
+        assert_left(
+            &rt,
+            &ran,
+            Status::NotesFault,
+            CAPTURE.as_slice(),
+            &REPORT[..call - 1],
+        );
+    }
+    let full = run_over(&rt, alloc, "run", text, 1, 113, NONE)?;
+    assert_left(
+        &rt,
+        &full,
+        Status::OutFault,
+        &CAPTURE[..113],
+        b"write fault\n",
+    );
+    Ok(())
+}
+
+#[test]
+fn each_write_of_a_check_that_fails_leaves_what_stood_before(rt: HostRuntime) -> Result<(), Fail> {
+    let alloc = rt.alloc();
+    let thirds = burst(alloc, 3, "pps", "3")?;
+    let line = b"accepted streams 1\n";
+    for call in 1..=line.len() {
+        let failing = Failing {
+            out: call as u64,
+            ..NONE
+        };
+        let ran = run_over(
+            &rt,
+            alloc,
+            "check",
+            thirds.as_bytes(),
+            1,
+            SMALL_ROOM,
+            failing,
+        )?;
+        assert_left(
+            &rt,
+            &ran,
+            Status::OutFault,
+            &line[..call - 1],
+            b"write fault\n",
+        );
+    }
+    Ok(())
+}
+
+#[test]
+fn each_read_that_fails_is_told(rt: HostRuntime) -> Result<(), Fail> {
+    let alloc = rt.alloc();
+    let thirds = burst(alloc, 3, "pps", "3")?;
+    for command in ["run", "check"] {
+        for call in 1..=thirds.len() + 1 {
+            let failing = Failing {
+                input: call as u64,
+                ..NONE
+            };
+            let ran = run_over(
+                &rt,
+                alloc,
+                command,
+                thirds.as_bytes(),
+                1,
+                SMALL_ROOM,
+                failing,
+            )?;
+            assert_left(&rt, &ran, Status::ReadFault, b"", b"read fault\n");
+        }
+    }
+    Ok(())
+}
+
+/// Looks at what is said of a profile.
+fn assert_check<R: Abort + Threads + Sync>(
+    rt: &R,
+    alloc: Global,
+    text: &str,
+    said: &str,
+) -> Result<(), Fail> {
+    let ran = run_over(
+        rt,
+        alloc,
+        "check",
+        text.as_bytes(),
+        LONGEST,
+        SMALL_ROOM,
+        NONE,
+    )?;
+    if ran.status == Status::Done {
+        assert_left(rt, &ran, Status::Done, said.as_bytes(), b"");
+    } else {
+        assert_left(rt, &ran, Status::Refused, b"", said.as_bytes());
+    }
+    Ok(())
+}
+
+#[test]
+fn texts_of_the_greatest_size_have_an_answer(rt: HostRuntime) -> Result<(), Fail> {
+    let alloc = rt.alloc();
+    let mut spaces = repeated(alloc, " ", LONGEST)?;
+    assert_check(&rt, alloc, spaces.as_str(), "refused: NotJson\n")?;
+    spaces.push_str(" ")?;
+    assert_check(&rt, alloc, spaces.as_str(), "refused: TooLong\n")
+}
+
+#[test]
+fn nesting_and_entries_have_their_bounds(rt: HostRuntime) -> Result<(), Fail> {
+    let alloc = rt.alloc();
+    for (depth, said) in [
+        (128, "refused: NotJson\n"),
+        (127, "refused: BadEntry stream 0\n"),
+    ] {
+        let opened = repeated(alloc, "[", depth)?;
+        let closed = repeated(alloc, "]", depth)?;
+        let text = format!(in alloc; "{opened}{closed}")?;
+        assert_check(&rt, alloc, text.as_str(), said)?;
+    }
+    for (more, said) in [
+        (4_096, "refused: TooManyStreams\n"),
+        (4_095, "refused: BadStreamId stream 0\n"),
+    ] {
+        let others = repeated(alloc, ",{}", more)?;
+        let text = format!(in alloc; "[{{}}{others}]")?;
+        assert_check(&rt, alloc, text.as_str(), said)?;
+    }
+    Ok(())
+}
+
+#[test]
+fn counts_gaps_and_lists_have_their_bounds(rt: HostRuntime) -> Result<(), Fail> {
+    let alloc = rt.alloc();
+    let binary = r#""packet":{"binary":"AgAAAAACAgAAAAABiLU="}"#;
+    let rate = r#""rate":{"type":"pps","value":3}"#;
+    for (gap, total, said) in [
+        ("0", "4294967296", "refused: BadCount stream 0\n"),
+        ("1000000000000000", "3", "accepted streams 1\n"),
+        ("1000000000000000.001", "3", "refused: BadIsg stream 0\n"),
+    ] {
+        let text = format!(in alloc;
+            r#"[{{"stream_id":1,"stream":{{"isg":{gap},{binary},"mode":{{"type":"single_burst","total_pkts":{total},{rate}}}}}}}]"#
+        )?;
+        assert_check(&rt, alloc, text.as_str(), said)?;
+    }
+    for (more, said) in [
+        (4_096, "refused: VarRange stream 0 at 0\n"),
+        (4_095, "accepted streams 1\n"),
+    ] {
+        let others = repeated(alloc, ",1", more)?;
+        let variable = format!(in alloc;
+            r#"{{"type":"flow_var","name":"v","size":1,"op":"inc","value_list":[1{others}]}}"#
+        )?;
+        let text = format!(in alloc;
+            r#"[{{"stream_id":1,"stream":{{{binary},"mode":{{"type":"continuous",{rate}}},"vm":{{"instructions":[{variable}]}}}}}}]"#
+        )?;
+        assert_check(&rt, alloc, text.as_str(), said)?;
+    }
+    Ok(())
+}
+
+#[test]
+fn the_slowest_rate_sends_one_packet(rt: HostRuntime) -> Result<(), Fail> {
+    let alloc = rt.alloc();
+    let zeros = repeated(alloc, "AAAA", 3_072)?;
+    let text = format!(in alloc;
+        r#"[{{"stream_id":1,"stream":{{"packet":{{"binary":"{zeros}"}},"mode":{{"type":"multi_burst","pkts_per_burst":4294967295,"count":4294967295,"rate":{{"type":"bps_L2","value":0.000001}}}}}}}}]"#
+    )?;
+    let line = "run --duration 1000000000000000000";
+    let ran = run_over(&rt, alloc, line, text.as_bytes(), LONGEST, SMALL_ROOM, NONE)?;
+    let mut sent = Vec::from_slice(alloc, &header())?;
+    sent.extend_from_slice(&record_header(0, 9_216))?;
+    sent.extend_from_slice(&[0; 9_216])?;
+    assert_left(
+        &rt,
+        &ran,
+        Status::Done,
+        sent.as_slice(),
+        b"stream 1 packets 1 bytes 9216\ntotal packets 1 bytes 9216\n",
+    );
+    Ok(())
+}
