@@ -9,7 +9,7 @@ ghost use Rattle.trex_top.specs.Clauses.{OnRefusal, OnRun, OnlyRun, OnCheck, IfP
 
 use crate::check::check;
 use crate::run::run;
-use crate::stop::{stopped, tell};
+use crate::stop::{Stop, stopped, tell};
 use crate::texts::{Line, write_report};
 use std::alloc::Global;
 use std::thread::Threads;
@@ -102,6 +102,7 @@ pub fn trex_main<R: Threads + Sync, S: Source, O: Sink, N: Sink, G: Gate>(
             Ok(()) => Status::Done,
             Err(stop) => stopped(notes, stop),
         },
+        Ok(Asked::Analyze | Asked::Sample(_) | Asked::Help) => stopped(notes, Stop::Memory),
     }
 }
 

@@ -4,9 +4,11 @@ use Rattle.std.specs.Str.{bytes_eq}
 use Rattle.std.specs.Str.Parse.{digits_value}
 use Rattle.std.proofs.lemmas.Slice.Eq.{bytes_eq-Decides}
 use Rattle.std.proofs.lemmas.Bool.Decides.{nat_tests}
+use Rattle.trex_words.specs.declared.command.Command.{Command}
+use Rattle.trex_words.specs.declared.command.Command.TheVariants.{Run, Check, Analyze, Sample, Help}
 use Rattle.trex_words.specs.declared.options.Limits.{Limits}
 use Rattle.trex_words.specs.declared.asked.Usage.TheVariants.{Repeated, NoValue, BadNumber, OutOfRange}
-use Rattle.trex_words.specs.Asked.{Options, run_options, limits_of, word, option_at, value_place, option_fault, pair_fault, fault_of, is_number, is_within}
+use Rattle.trex_words.specs.Asked.{Options, schedule_options, options_of, limits_of, word, option_at, value_place, option_fault, pair_fault, fault_of, is_number, is_within}
 use Rattle.trex_words.proofs.Firsts.{first_of-none, first_of-some}
 use Rattle.trex_words.proofs.Numbers.{both, le_of}
 
@@ -60,11 +62,19 @@ some_greatest : (c : Bool) (x : Limits) (rest : Option Limits) (l : Limits) → 
 some_greatest true x rest l fits others e = let same : x ≡ l = cc in subst (λ l. l.greatest < 2 ^ 64) same fits
 some_greatest false x rest l fits others e = others e
 
--- each option's greatest value fits a u64
-pub run_greatest : (name : List ℕ) (l : Limits) → limits_of run_options name ≡ Some l → l.greatest < 2 ^ 64
-run_greatest name l e =
+schedule_fits : (name : List ℕ) (l : Limits) → limits_of schedule_options name ≡ Some l → l.greatest < 2 ^ 64
+schedule_fits name l =
     some_greatest (bytes_eq name (codes "--duration")) _ _ l (omega arith)
     (some_greatest (bytes_eq name (codes "--limit")) _ _ l (omega arith)
-    (some_greatest (bytes_eq name (codes "--cores")) _ _ l (omega arith)
-    (some_greatest (bytes_eq name (codes "--base")) _ _ l (omega arith) (λ none. cc))))
+    (some_greatest (bytes_eq name (codes "--cores")) _ _ l (omega arith) (λ none. cc)))
+
+-- each option's greatest value fits a u64
+pub greatest_fits : (command : Command) (name : List ℕ) (l : Limits) → limits_of (options_of command) name ≡ Some l → l.greatest < 2 ^ 64
+greatest_fits Run name l e = some_greatest (bytes_eq name (codes "--base")) _ _ l (omega arith) (schedule_fits name l) e
+greatest_fits Check name l e = cc
+greatest_fits Analyze name l e = cc
+greatest_fits Sample name l e =
+    some_greatest (bytes_eq name (codes "--seed")) _ _ l (omega arith)
+    (some_greatest (bytes_eq name (codes "--streams")) _ _ l (omega arith) (schedule_fits name l))
     e
+greatest_fits Help name l e = cc

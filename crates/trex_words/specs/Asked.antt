@@ -1,19 +1,33 @@
 -- What the command words ask for: a request, or the first fault from the left with its word's place. Own.
-use Rattle.std.specs.Prelude.{ℕ, ◌+◌, ◌*◌, ◌/◌, ◌^◌, ◌≤◌, ◌==◌, ◌&&◌, Bool, List, [], ◌∷◌, length, map, codes, Option, None, Some, Result, Ok, Err, is_some, if◌then◌else◌, nat_lt, nat_le, slice_index_or, String, string_bytes}
+use Rattle.std.specs.Prelude.{ℕ, ◌+◌, ◌-◌, ◌*◌, ◌/◌, ◌^◌, ◌≤◌, ◌==◌, ◌&&◌, Bool, List, [], ◌∷◌, length, map, codes, Option, None, Some, Result, Ok, Err, is_some, if◌then◌else◌, nat_lt, nat_le, slice_index_or, String, string_bytes}
 use Rattle.std.specs.declared.alloc.Global.{Global}
+use Rattle.std.specs.Option.{option_or}
 use Rattle.std.specs.Str.{bytes_eq, all_ascii_digits}
 use Rattle.std.specs.Str.Parse.{digits_value}
 use Rattle.trex_words.specs.First.{first_of}
 use Rattle.trex_words.specs.declared.asked.RunAsk.{RunAsk}
+use Rattle.trex_words.specs.declared.asked.SampleAsk.{SampleAsk}
 use Rattle.trex_words.specs.declared.asked.Asked.{Asked}
-use Rattle.trex_words.specs.declared.asked.Asked.TheVariants.{Run, Check}
+use Rattle.trex_words.specs.declared.asked.Asked.TheVariants.{Run as ARun, Check as ACheck, Analyze as AnAnalysis, Sample as ASample, Help as SomeHelp}
+use Rattle.trex_words.specs.declared.command.Command.{Command}
+use Rattle.trex_words.specs.declared.command.Command.TheVariants.{Run, Check, Analyze, Sample, Help}
 use Rattle.trex_words.specs.declared.options.Limits.{Limits}
+use Rattle.trex_words.specs.declared.asked.OptionName.TheVariants.{Seed}
 use Rattle.trex_words.specs.declared.asked.Usage.{Usage}
-use Rattle.trex_words.specs.declared.asked.Usage.TheVariants.{NoCommand, UnknownCommand, UnknownOption, Repeated, NoValue, BadNumber, OutOfRange}
+use Rattle.trex_words.specs.declared.asked.Usage.TheVariants.{NoCommand, UnknownCommand, UnknownOption, Repeated, NoValue, BadNumber, OutOfRange, Missing}
 
 -- the words as bytes
 abbrev pub texts : List (String Global) → List (List ℕ)
 texts words = map string_bytes words
+
+-- the command of a word, if it is one
+abbrev pub command_of : List ℕ → Option Command
+command_of word =
+    if bytes_eq word (codes "run") then Some Run
+    else (if bytes_eq word (codes "check") then Some Check
+    else (if bytes_eq word (codes "analyze") then Some Analyze
+    else (if bytes_eq word (codes "sample") then Some Sample
+    else (if bytes_eq word (codes "help") then Some Help else None))))
 
 -- the options of a command: the name of each, its least and its greatest value, and its value where it isn't given
 abbrev pub Options : Type 0
@@ -22,13 +36,27 @@ Options = List (List ℕ × Limits)
 abbrev pub limits : ℕ → ℕ → ℕ → Limits
 limits least greatest default = record { least = least; greatest = greatest; default = default }
 
-abbrev pub run_options : Options
-run_options =
+-- the options that a run and a sample have both
+abbrev pub schedule_options : Options
+schedule_options =
     (codes "--duration", limits 1 (10 ^ 18) (10 ^ 9))
     ∷ (codes "--limit", limits 1 100000000 100000)
     ∷ (codes "--cores", limits 1 64 1)
-    ∷ (codes "--base", limits 0 3000000000 0)
     ∷ []
+
+abbrev pub run_options : Options
+run_options = (codes "--base", limits 0 3000000000 0) ∷ schedule_options
+
+-- the seed must be given
+abbrev pub sample_options : Options
+sample_options = (codes "--seed", limits 0 (2 ^ 64 - 1) 0) ∷ (codes "--streams", limits 1 256 16) ∷ schedule_options
+
+abbrev pub options_of : Command → Options
+options_of Run = run_options
+options_of Check = []
+options_of Analyze = []
+options_of Sample = sample_options
+options_of Help = []
 
 -- the limits of an option, if the command has it
 abbrev pub limits_of : Options → List ℕ → Option Limits
@@ -83,28 +111,64 @@ abbrev pub default_of : Option Limits → ℕ
 default_of None = 0
 default_of (Some l) = l.default
 
--- the value of an option of a run: the number that the words give it, or its default
-unfoldable pub value_of : List (List ℕ) → List ℕ → ℕ
-value_of words name = number_at words (value_place words (length words / 2) name) (default_of (limits_of run_options name))
+-- the value of an option: the number that the words give it, or its default
+unfoldable pub value_of : Options → List (List ℕ) → List ℕ → ℕ
+value_of options words name = number_at words (value_place words (length words / 2) name) (default_of (limits_of options name))
 
--- a run with the values of its options
-abbrev pub run_ask : List (List ℕ) → RunAsk
-run_ask words = record {
-  duration = value_of words (codes "--duration");
-  limit = value_of words (codes "--limit");
-  cores = value_of words (codes "--cores");
-  base = value_of words (codes "--base");
+-- an option that must be given and isn't
+abbrev pub missing_option : Command → List (List ℕ) → Option Usage
+missing_option Run words = None
+missing_option Check words = None
+missing_option Analyze words = None
+missing_option Sample words = if is_some (value_place words (length words / 2) (codes "--seed")) then None else Some (Missing Seed)
+missing_option Help words = None
+
+-- what is wrong with the words of a command: the first fault from the left, and after the last word an option that is missing
+abbrev pub command_fault : Command → List (List ℕ) → Option Usage
+command_fault command words = option_or (fault_of (options_of command) words) (missing_option command words)
+
+-- a run with the values of its options, the base aside
+abbrev pub run_of : Options → List (List ℕ) → ℕ → RunAsk
+run_of options words base = record {
+  duration = value_of options words (codes "--duration");
+  limit = value_of options words (codes "--limit");
+  cores = value_of options words (codes "--cores");
+  base = base;
 }
+
+abbrev pub run_ask : List (List ℕ) → RunAsk
+run_ask words = run_of run_options words (value_of run_options words (codes "--base"))
+
+-- a sample with the values of its options; its base is 0
+abbrev pub sample_ask : List (List ℕ) → SampleAsk
+sample_ask words = record {
+  seed = value_of sample_options words (codes "--seed");
+  streams = value_of sample_options words (codes "--streams");
+  run = run_of sample_options words 0;
+}
+
+-- what a command asks for
+abbrev pub request : Command → List (List ℕ) → Asked
+request Run words = ARun (run_ask words)
+request Check words = ACheck
+request Analyze words = AnAnalysis
+request Sample words = ASample (sample_ask words)
+request Help words = SomeHelp
 
 -- the request, if nothing is wrong with the words
 abbrev pub unless : Option Usage → Asked → Result Asked Usage
 unless None request = Ok request
 unless (Some fault) request = Err fault
 
+-- the request of a command, if the first word is one
+abbrev pub asked_by : Option Command → List (List ℕ) → Result Asked Usage
+asked_by None words = Err UnknownCommand
+asked_by (Some command) words = unless (command_fault command words) (request command words)
+
 -- what the words ask for, the command first
 unfoldable pub asked : List (List ℕ) → Result Asked Usage
 asked [] = Err NoCommand
-asked (command ∷ rest) = if bytes_eq command (codes "run") then unless (fault_of run_options (command ∷ rest)) (Run (run_ask (command ∷ rest))) else (if bytes_eq command (codes "check") then unless (fault_of [] (command ∷ rest)) Check else Err UnknownCommand)
+asked (word ∷ words) = asked_by (command_of word) (word ∷ words)
 
 -- the ranges of a run's options
 pub record IsRunAsk (ask : RunAsk) : Type 0 where
@@ -113,7 +177,15 @@ pub record IsRunAsk (ask : RunAsk) : Type 0 where
   pub base : ask.base ≤ 3000000000
   pub cores : (1 ≤ ask.cores) × (ask.cores ≤ 64)
 
+-- the ranges of a sample's options
+pub record IsSampleAsk (ask : SampleAsk) : Type 0 where
+  pub streams : (1 ≤ ask.streams) × (ask.streams ≤ 256)
+  pub run : IsRunAsk ask.run
+
 -- the ranges of a request
 abbrev pub IsAsked : Asked → Type 0
-IsAsked (Run ask) = IsRunAsk ask
-IsAsked Check = Unit {0}
+IsAsked (ARun ask) = IsRunAsk ask
+IsAsked ACheck = Unit {0}
+IsAsked AnAnalysis = Unit {0}
+IsAsked (ASample ask) = IsSampleAsk ask
+IsAsked SomeHelp = Unit {0}

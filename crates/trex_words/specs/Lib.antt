@@ -1,2 +1,3 @@
 pub mod Asked
 pub mod First
+pub mod Help

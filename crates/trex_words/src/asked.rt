@@ -5,6 +5,12 @@ pub enum Asked {
     Run(RunAsk),
     /// Tell whether a profile is accepted.
     Check,
+    /// Measure a capture.
+    Analyze,
+    /// Sum up the capture of a sample profile.
+    Sample(SampleAsk),
+    /// Tell the commands and their options.
+    Help,
 }
 
 /// The options of a run.
@@ -18,6 +24,17 @@ pub struct RunAsk {
     pub cores: u32,
     /// The schedule's zero, in seconds of the capture's clock.
     pub base: u32,
+}
+
+/// The options of a sample.
+#[derive(Clone, Copy, Debug, PartialEq, Eq)]
+pub struct SampleAsk {
+    /// The seed of the sample profile.
+    pub seed: u64,
+    /// How many streams the sample profile has.
+    pub streams: u32,
+    /// The run of the sample profile; its base is 0.
+    pub run: RunAsk,
 }
 
 /// An option, by its name.

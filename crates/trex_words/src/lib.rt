@@ -2,10 +2,13 @@
 #![tactic(auto)]
 
 mod asked;
+mod command;
+mod help;
 mod options;
 mod read;
 
-pub use asked::{Asked, OptionName, RunAsk, Usage};
+pub use asked::{Asked, OptionName, RunAsk, SampleAsk, Usage};
+pub use help::help_text;
 pub use read::read_words;
 
 #[cfg(test)]

@@ -1,5 +1,7 @@
 ghost use Rattle.std.specs.Prelude.{◌≡◌};
-ghost use Rattle.trex_words.specs.Asked.{limits_of, run_options};
+ghost use Rattle.trex_words.specs.Asked.{limits_of, options_of, schedule_options, run_options, sample_options};
+
+use crate::command::Command;
 
 // The least and the greatest value of an option, and its value where it isn't given.
 #[derive(Clone, Copy, Debug, PartialEq, Eq)]
@@ -33,9 +35,21 @@ pub const BASE: Limits = Limits {
     default: 0,
 };
 
-// The limits of an option of a run.
-pub fn limits_of(name: &str) -> Option<Limits>
-    ensures { result ≡ limits_of run_options name.now }
+pub const SEED: Limits = Limits {
+    least: 0,
+    greatest: u64::MAX,
+    default: 0,
+};
+
+pub const STREAMS: Limits = Limits {
+    least: 1,
+    greatest: 256,
+    default: 16,
+};
+
+// The limits of an option of a run or of a sample.
+fn schedule_limits(name: &str) -> Option<Limits>
+    ensures { result ≡ limits_of schedule_options name.now }
 {
     if name == "--duration" {
         Some(DURATION)
@@ -43,9 +57,42 @@ pub fn limits_of(name: &str) -> Option<Limits>
         Some(LIMIT)
     } else if name == "--cores" {
         Some(CORES)
-    } else if name == "--base" {
-        Some(BASE)
     } else {
         None
+    }
+}
+
+// The limits of an option of a run.
+fn run_limits(name: &str) -> Option<Limits>
+    ensures { result ≡ limits_of run_options name.now }
+{
+    if name == "--base" {
+        Some(BASE)
+    } else {
+        schedule_limits(name)
+    }
+}
+
+// The limits of an option of a sample.
+fn sample_limits(name: &str) -> Option<Limits>
+    ensures { result ≡ limits_of sample_options name.now }
+{
+    if name == "--seed" {
+        Some(SEED)
+    } else if name == "--streams" {
+        Some(STREAMS)
+    } else {
+        schedule_limits(name)
+    }
+}
+
+// The limits of an option of a command.
+pub fn limits_of(command: Command, name: &str) -> Option<Limits>
+    ensures { result ≡ limits_of (options_of command) name.now }
+{
+    match command {
+        Command::Run => run_limits(name),
+        Command::Sample => sample_limits(name),
+        Command::Check | Command::Analyze | Command::Help => None,
     }
 }

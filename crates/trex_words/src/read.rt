@@ -1,9 +1,10 @@
-ghost use Rattle.std.specs.Prelude.{◌≡◌, ◌+◌, ◌*◌, ◌/◌, ◌^◌, ◌<◌, ◌≤◌, true, None, Some, [], length, IfOk};
+ghost use Rattle.std.specs.Prelude.{◌≡◌, ◌+◌, ◌*◌, ◌/◌, ◌^◌, ◌<◌, ◌≤◌, true, None, Some, length, IfOk};
 ghost use Rattle.std.specs.Str.Parse.{digits_value};
-ghost use Rattle.trex_words.specs.Asked.{texts, word, value_place, is_number, is_within, value_fault, pair_fault, fault_of, limits_of, run_options, value_of, run_ask, asked, IsRunAsk, IsAsked};
+ghost use Rattle.trex_words.specs.Asked.{texts, word, value_place, is_number, is_within, value_fault, pair_fault, fault_of, missing_option, command_fault, limits_of, options_of, run_options, sample_options, value_of, run_of, run_ask, sample_ask, request, asked, IsRunAsk, IsSampleAsk, IsAsked};
 
-use crate::asked::{Asked, RunAsk, Usage};
-use crate::options::{BASE, CORES, DURATION, LIMIT, Limits, limits_of};
+use crate::asked::{Asked, OptionName, RunAsk, SampleAsk, Usage};
+use crate::command::{Command, command_of};
+use crate::options::{BASE, CORES, DURATION, LIMIT, Limits, SEED, STREAMS, limits_of};
 
 // The word at a place.
 fn word(words: &[String], at: usize) -> &str
@@ -66,13 +67,13 @@ fn value_fault(limits: Limits, at: usize, text: &str) -> Option<Usage>
 }
 
 // What is wrong with a pair of words, an option and its value.
-fn pair_fault(words: &[String], pair: usize) -> Option<Usage>
+fn pair_fault(command: Command, words: &[String], pair: usize) -> Option<Usage>
     requires { pair < length words.now / 2 }
-    ensures { result ≡ pair_fault run_options (texts words.now) pair }
+    ensures { result ≡ pair_fault (options_of command) (texts words.now) pair }
 {
     let at = 2 * pair + 1;
     let name = word(words, at);
-    let Some(limits) = limits_of(name) else {
+    let Some(limits) = limits_of(command, name) else {
         return Some(Usage::UnknownOption { at });
     };
     if value_place(words, pair, name).is_some() {
@@ -84,27 +85,36 @@ fn pair_fault(words: &[String], pair: usize) -> Option<Usage>
     value_fault(limits, at + 1, word(words, at + 1))
 }
 
-// What is wrong with the options of a run: the first fault from the left.
-fn run_fault(words: &[String]) -> Option<Usage>
-    ensures { result ≡ fault_of run_options (texts words.now) }
+// What is wrong with the options of a command: the first fault from the left.
+fn options_fault(command: Command, words: &[String]) -> Option<Usage>
+    ensures { result ≡ fault_of (options_of command) (texts words.now) }
 {
     for pair in 0..words.len() / 2 {
-        if let Some(fault) = pair_fault(words, pair) {
+        if let Some(fault) = pair_fault(command, words, pair) {
             return Some(fault);
         }
     }
     None
 }
 
-// What is wrong with the options of a command that has none.
-fn extra_word(words: &[String]) -> Option<Usage>
-    ensures { result ≡ fault_of [] (texts words.now) }
+// An option that must be given and isn't.
+fn missing_option(command: Command, words: &[String]) -> Option<Usage>
+    ensures { result ≡ missing_option command (texts words.now) }
 {
-    if words.len() > 1 {
-        Some(Usage::UnknownOption { at: 1 })
-    } else {
-        None
+    let seed = value_place(words, words.len() / 2, "--seed");
+    match (command, seed) {
+        (Command::Sample, None) => Some(Usage::Missing {
+            option: OptionName::Seed,
+        }),
+        _ => None,
     }
+}
+
+// What is wrong with the words of a command.
+fn command_fault(command: Command, words: &[String]) -> Option<Usage>
+    ensures { result ≡ command_fault command (texts words.now) }
+{
+    options_fault(command, words).or(missing_option(command, words))
 }
 
 // The number of one or more digits that a u64 holds.
@@ -116,11 +126,11 @@ fn number(text: &str) -> u64
     text.parse::<u64>().unwrap()
 }
 
-// The value of an option of a run, where nothing is wrong with the words.
-fn value_of(words: &[String], name: &str, limits: Limits) -> u64
-    requires option { limits_of run_options name.now ≡ Some limits }
-    requires faultless { fault_of run_options (texts words.now) ≡ None }
-    ensures value { result ≡ value_of (texts words.now) name.now }
+// The value of an option, where nothing is wrong with the words.
+fn value_of(command: Command, words: &[String], name: &str, limits: Limits) -> u64
+    requires option { limits_of (options_of command) name.now ≡ Some limits }
+    requires faultless { fault_of (options_of command) (texts words.now) ≡ None }
+    ensures value { result ≡ value_of (options_of command) (texts words.now) name.now }
     ensures least { limits.least ≤ limits.default → limits.least ≤ result }
     ensures greatest { limits.default ≤ limits.greatest → result ≤ limits.greatest }
 {
@@ -137,17 +147,59 @@ fn run_ask(words: &[String]) -> RunAsk
     ensures ranges { IsRunAsk result }
 {
     RunAsk {
-        duration: value_of(words, "--duration", DURATION),
-        limit: value_of(words, "--limit", LIMIT),
-        cores: value_of(words, "--cores", CORES) as u32,
-        base: value_of(words, "--base", BASE) as u32,
+        duration: value_of(Command::Run, words, "--duration", DURATION),
+        limit: value_of(Command::Run, words, "--limit", LIMIT),
+        cores: value_of(Command::Run, words, "--cores", CORES) as u32,
+        base: value_of(Command::Run, words, "--base", BASE) as u32,
     }
 }
 
-/// What the command words ask for, or the first fault from the left. Word 0 is the command, `run` or `check`. The options of
-/// `run` are pairs of words in any order, each at most once: `--duration` (1 to 10^18, else 10^9), `--limit` (1 to 100000000,
-/// else 100000), `--cores` (1 to 64, else 1) and `--base` (0 to 3000000000, else 0). A value is one or more digits. `check`
-/// has no options.
+// The run of a sample, where nothing is wrong with the words.
+fn sample_run(words: &[String]) -> RunAsk
+    requires { fault_of sample_options (texts words.now) ≡ None }
+    ensures value { result ≡ run_of sample_options (texts words.now) 0 }
+    ensures ranges { IsRunAsk result }
+{
+    RunAsk {
+        duration: value_of(Command::Sample, words, "--duration", DURATION),
+        limit: value_of(Command::Sample, words, "--limit", LIMIT),
+        cores: value_of(Command::Sample, words, "--cores", CORES) as u32,
+        base: 0,
+    }
+}
+
+// The options of a sample, where nothing is wrong with the words.
+fn sample_ask(words: &[String]) -> SampleAsk
+    requires { fault_of sample_options (texts words.now) ≡ None }
+    ensures value { result ≡ sample_ask (texts words.now) }
+    ensures ranges { IsSampleAsk result }
+{
+    SampleAsk {
+        seed: value_of(Command::Sample, words, "--seed", SEED),
+        streams: value_of(Command::Sample, words, "--streams", STREAMS) as u32,
+        run: sample_run(words),
+    }
+}
+
+// What a command asks for, where nothing is wrong with the words.
+fn request(command: Command, words: &[String]) -> Asked
+    requires { fault_of (options_of command) (texts words.now) ≡ None }
+    ensures value { result ≡ request command (texts words.now) }
+    ensures ranges { IsAsked result }
+{
+    match command {
+        Command::Run => Asked::Run(run_ask(words)),
+        Command::Check => Asked::Check,
+        Command::Analyze => Asked::Analyze,
+        Command::Sample => Asked::Sample(sample_ask(words)),
+        Command::Help => Asked::Help,
+    }
+}
+
+/// What the command words ask for, or the first fault from the left. Word 0 is the command: `run`, `check`, `analyze`, `sample` or
+/// `help`. The options are pairs of words in any order, each at most once. `run` and `sample` have `--duration` (1 to 10^18, else
+/// 10^9), `--limit` (1 to 100000000, else 100000) and `--cores` (1 to 64, else 1). `run` has `--base` (0 to 3000000000, else 0).
+/// `sample` has `--seed` (0 to 2^64 - 1, which must be given) and `--streams` (1 to 256, else 16). A value is one or more digits.
 pub fn read_words(words: &[String]) -> Result<Asked, Usage>
     ensures value { result ≡ asked (texts words.now) }
     ensures ranges { IfOk result IsAsked }
@@ -155,18 +207,11 @@ pub fn read_words(words: &[String]) -> Result<Asked, Usage>
     if words.is_empty() {
         return Err(Usage::NoCommand);
     }
-    let command = word(words, 0);
-    if command == "run" {
-        return match run_fault(words) {
-            Some(fault) => Err(fault),
-            None => Ok(Asked::Run(run_ask(words))),
-        };
+    let Some(command) = command_of(word(words, 0)) else {
+        return Err(Usage::UnknownCommand);
+    };
+    match command_fault(command, words) {
+        Some(fault) => Err(fault),
+        None => Ok(request(command, words)),
     }
-    if command == "check" {
-        return match extra_word(words) {
-            Some(fault) => Err(fault),
-            None => Ok(Asked::Check),
-        };
-    }
-    Err(Usage::UnknownCommand)
 }

@@ -1,4 +1,6 @@
 use super::*;
+use clap::builder::ValueParser;
+use clap::{Arg, ArgMatches, Command};
 use std::alloc::{AllocError, Global};
 use std::test::Fail;
 
@@ -20,8 +22,24 @@ fn run(duration: u64, limit: u64, cores: u32, base: u32) -> Result<Asked, Usage>
     }))
 }
 
+fn sample(seed: u64, streams: u32) -> Result<Asked, Usage> {
+    Ok(Asked::Sample(SampleAsk {
+        seed,
+        streams,
+        run: RunAsk {
+            duration: 1_000_000_000,
+            limit: 100_000,
+            cores: 1,
+            base: 0,
+        },
+    }))
+}
+
 #[test]
 fn words_are_read_up_to_the_first_fault(rt: HostRuntime) -> Result<(), Fail> {
+    let missing = Err(Usage::Missing {
+        option: OptionName::Seed,
+    });
     for (line, want) in [
         ("", Err(Usage::NoCommand)),
         ("go", Err(Usage::UnknownCommand)),
@@ -32,6 +50,13 @@ fn words_are_read_up_to_the_first_fault(rt: HostRuntime) -> Result<(), Fail> {
         ("run --base 1 --base 1", Err(Usage::Repeated { at: 3 })),
         ("check x", Err(Usage::UnknownOption { at: 1 })),
         ("check", Ok(Asked::Check)),
+        ("analyze", Ok(Asked::Analyze)),
+        ("help", Ok(Asked::Help)),
+        ("help --limit 1", Err(Usage::UnknownOption { at: 1 })),
+        ("sample", missing),
+        ("sample --limit 5", missing),
+        ("sample --base 1", Err(Usage::UnknownOption { at: 1 })),
+        ("sample --seed", Err(Usage::NoValue { at: 1 })),
         ("run", run(1_000_000_000, 100_000, 1, 0)),
         ("run --base 1 --base", Err(Usage::Repeated { at: 3 })),
         ("run --base +1", Err(Usage::BadNumber { at: 2 })),
@@ -74,8 +99,78 @@ fn each_range_ends_where_the_table_says(rt: HostRuntime) -> Result<(), Fail> {
         ),
         ("run --base 3000000001", past),
         ("run --base 18446744073709551616", past),
+        ("sample --seed 0", sample(0, 16)),
+        ("sample --seed 18446744073709551615", sample(u64::MAX, 16)),
+        ("sample --seed 18446744073709551616", past),
+        ("sample --streams 0", past),
+        ("sample --streams 1 --seed 2", sample(2, 1)),
+        ("sample --streams 256 --seed 2", sample(2, 256)),
+        ("sample --streams 257", past),
     ] {
         assert_eq!(rt; read_words(&words(rt.alloc(), line)?), want, "{line}");
+    }
+    Ok(())
+}
+
+// An option whose value lies from a least to a greatest one.
+fn option<'a>(alloc: Global, name: &'a str, least: u64, greatest: u64) -> Arg<'a> {
+    Arg::new(alloc, name)
+        .long(name)
+        .value_parser(ValueParser::unsigned(least, greatest))
+}
+
+// A command with the options that `run` and `sample` have both.
+fn command<'a>(alloc: Global, name: &'a str) -> Result<Command<'a>, AllocError> {
+    let duration = option(alloc, "duration", 1, 1_000_000_000_000_000_000);
+    let limit = option(alloc, "limit", 1, 100_000_000);
+    let cores = option(alloc, "cores", 1, 64);
+    Command::new(alloc, name)
+        .arg(duration.default_value("1000000000"))?
+        .arg(limit.default_value("100000"))?
+        .arg(cores.default_value("1"))
+}
+
+fn run_numbers(matches: &ArgMatches<'_>, base: u32) -> Option<RunAsk> {
+    Some(RunAsk {
+        duration: matches.get_one("duration")?,
+        limit: matches.get_one("limit")?,
+        cores: matches.get_one("cores")?,
+        base,
+    })
+}
+
+fn sample_numbers(matches: &ArgMatches<'_>) -> Option<SampleAsk> {
+    Some(SampleAsk {
+        seed: matches.get_one("seed")?,
+        streams: matches.get_one("streams")?,
+        run: run_numbers(matches, 0)?,
+    })
+}
+
+#[test]
+fn clap_reads_the_same_numbers(rt: HostRuntime) -> Result<(), Fail> {
+    let alloc = rt.alloc();
+    for line in ["run", "run --cores 3 --limit 7 --base 1 --duration 2"] {
+        let words = words(alloc, line)?;
+        let base = option(alloc, "base", 0, 3_000_000_000).default_value("0");
+        let matches = command(alloc, "run")?
+            .arg(base)?
+            .try_get_matches_from(words.as_slice())?;
+        let base = matches.get_one("base").ok_or("a base")?;
+        let ask = run_numbers(&matches, base).ok_or("the numbers of a run")?;
+        assert_eq!(rt; read_words(&words), Ok(Asked::Run(ask)), "{line}");
+    }
+    for line in [
+        "sample --seed 1 --streams 16 --limit 20000 --cores 8",
+        "sample --seed 1",
+    ] {
+        let words = words(alloc, line)?;
+        let seed = option(alloc, "seed", 0, u64::MAX).required(true);
+        let streams = option(alloc, "streams", 1, 256).default_value("16");
+        let command = command(alloc, "sample")?.arg(seed)?.arg(streams)?;
+        let matches = command.try_get_matches_from(words.as_slice())?;
+        let ask = sample_numbers(&matches).ok_or("the numbers of a sample")?;
+        assert_eq!(rt; read_words(&words), Ok(Asked::Sample(ask)), "{line}");
     }
     Ok(())
 }

@@ -1,8 +1,0 @@
--- Nothing is wrong with the pairs so far.
-use Rattle.std.proofs.Common.{◌≡◌, None}
-use Rattle.trex_words.specs.Asked.{texts, pair_fault, run_options}
-use Rattle.trex_words.specs.First.{first_of}
-use Rattle.trex_words.proofs.read.run_fault.Given as goal
-
-abbrev pub invariant-loop-pair : goal.invariant-loop-pair
-invariant-loop-pair l = first_of (pair_fault run_options (texts l.words)) l.pair ≡ None
