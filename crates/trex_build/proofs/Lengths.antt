@@ -1,0 +1,60 @@
+-- How long headers and packets are.
+use Rattle.std.proofs.Common.{◌≡◌, ℕ, ◌+◌, nat_le, nat_lt, Bool, true, false, if◌then◌else◌, List, [], ◌∷◌, ◌++◌, length, slice_get, sum_by, Option, None, Some, refl, sym, ap, ◌∙◌, arith, length-append}
+use Rattle.std.proofs.lemmas.List.Sums.{sum_by-cons}
+use Rattle.std.proofs.lemmas.Bool.Decides.{nat_tests}
+use Rattle.trex_build.specs.Layer.{Layer, Ethernet, Vlan, Ipv4, Tcp, Udp, Raw}
+use Rattle.trex_build.specs.Header.{sealed, ipv4_front, tcp_front, udp_front, addresses, header_of}
+use Rattle.trex_build.specs.Built.{built, bytes_behind, header_length, too_long}
+
+-- a header is as long as its fields and its checksum
+length-sealed : (written : ℕ → ℕ) (pseudo front back payload : List ℕ) → length (sealed written pseudo front back payload) ≡ length front + (2 + length back)
+unfolding sealed
+length-sealed written pseudo front back payload = length-append front _ ∙ omega arith
+
+length-ipv4_front : (tos total id frag ttl proto : ℕ) → length (ipv4_front tos total id frag ttl proto) ≡ 10
+unfolding ipv4_front
+length-ipv4_front tos total id frag ttl proto = refl
+
+length-tcp_front : (sport dport seq ack flags window : ℕ) → length (tcp_front sport dport seq ack flags window) ≡ 16
+unfolding tcp_front
+length-tcp_front sport dport seq ack flags window = refl
+
+length-udp_front : (sport dport len : ℕ) → length (udp_front sport dport len) ≡ 6
+unfolding udp_front
+length-udp_front sport dport len = refl
+
+-- a header is as long as its layer says
+pub length-header_of : (before : Option Layer) (one : Layer) (next : Option Layer) (payload : List ℕ) → length (header_of before one next payload) ≡ header_length one
+length-header_of before (Ethernet dst src etype) next payload = grind (arith, length-append)
+length-header_of before (Vlan tci etype) next payload = refl
+length-header_of before (Ipv4 tos id frag ttl proto src dst) next payload = length-sealed _ _ _ _ _ ∙ omega (arith, length-ipv4_front)
+length-header_of before (Tcp sport dport seq ack flags window) next payload = length-sealed _ _ _ _ _ ∙ omega (arith, length-tcp_front)
+length-header_of before (Udp sport dport) next payload = length-sealed _ _ _ _ _ ∙ omega (arith, length-udp_front)
+length-header_of before (Raw bytes) next payload = refl
+
+-- a packet is as long as its headers
+pub length-bytes_behind : (before : Option Layer) (layers : List Layer) → length (bytes_behind before layers) ≡ sum_by header_length layers
+length-bytes_behind before [] = refl
+length-bytes_behind before (one ∷ later) =
+    let payload = bytes_behind (Some one) later in
+    let here = length-header_of before one (slice_get later 0) payload in
+    let more = length-bytes_behind (Some one) later in
+    length-append (header_of before one (slice_get later 0) payload) payload ∙ omega (arith, sum_by-cons header_length one later)
+
+-- so it is too long by their lengths
+pub too_long-by_length : (layers : List Layer) → too_long layers ≡ nat_lt 9216 (sum_by header_length layers)
+too_long-by_length layers = ap (nat_lt 9216) (length-bytes_behind None layers)
+
+-- a length that is no greater than this one, or else none, where it is none
+pub too_long-none : (layers : List Layer) → None ≡ (if nat_le (sum_by header_length layers) 9216 then Some (sum_by header_length layers) else None) → too_long layers ≡ true
+too_long-none layers none = too_long-by_length layers ∙ by_test (sum_by header_length layers) none
+  where
+    by_test : (n : ℕ) → None ≡ (if nat_le n 9216 then Some n else None) → nat_lt 9216 n ≡ true
+    by_test n none = grind (arith, nat_tests)
+
+-- and where there is one
+pub too_long-some : (layers : List Layer) (length : ℕ) → Some length ≡ (if nat_le (sum_by header_length layers) 9216 then Some (sum_by header_length layers) else None) → too_long layers ≡ false
+too_long-some layers length some = too_long-by_length layers ∙ by_test (sum_by header_length layers) some
+  where
+    by_test : (n : ℕ) → Some length ≡ (if nat_le n 9216 then Some n else None) → nat_lt 9216 n ≡ false
+    by_test n some = grind (arith, nat_tests)
