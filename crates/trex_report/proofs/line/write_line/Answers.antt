@@ -1,0 +1,4 @@
+use Rattle.trex_report.proofs.line.write_line.Goals as goal
+
+pub returns-in-ReadFault : goal.returns-in-ReadFault
+returns-in-ReadFault g c = rw c.in-ReadFault.is c.write_all.ensures

@@ -1,0 +1,80 @@
+ghost use Rattle.trex_io.specs.Texts.{Writes};
+ghost use Rattle.trex_report.specs.Texts.{accepted_line, line_text};
+
+use crate::capture::write_bad_capture;
+use crate::refusal::write_refusal;
+use crate::sample::write_sample;
+use crate::usage::write_usage;
+use itoa::Buffer;
+use trex_io::{Failed, Sink, write_all, write_pieces};
+use trex_pcap::CaptureFault;
+use trex_profile::Refusal;
+use trex_words::Usage;
+
+/// A line that is printed by itself.
+#[derive(Clone, Copy, Debug, PartialEq, Eq)]
+pub enum Line {
+    /// A profile of so many streams keeps all rules.
+    Accepted {
+        streams: u64,
+    },
+    /// The command words have no meaning.
+    Usage(Usage),
+    /// A profile breaks a rule.
+    Refused(Refusal),
+    /// A capture has a fault.
+    BadCapture(CaptureFault),
+    /// The input could not be read.
+    ReadFault,
+    /// The output could not be written.
+    WriteFault,
+    /// There was no memory.
+    OutOfMemory,
+    /// What is summed up of a sample: how many packets were sent and of how many bytes, record headers not counted, and the folded
+    /// Internet checksum (RFC 1071) of the capture.
+    Sample {
+        seed: u64,
+        streams: u32,
+        packets: u64,
+        bytes: u64,
+        sum: u16,
+    },
+}
+
+/// Writes that a profile keeps all rules.
+#[tactic(auto, unfolding(crate::specs::Texts::accepted_line))]
+fn write_accepted<O: Sink>(to: &mut O, streams: u64) -> Result<(), Failed>
+    ensures { Writes O.held O.faults to.old to.new result (accepted_line streams) }
+{
+    let mut count = Buffer::new();
+    write_pieces(
+        to,
+        &[
+            b"accepted streams ",
+            count.format(streams).as_bytes(),
+            b"\n",
+        ],
+    )
+}
+
+/// Writes a line.
+pub fn write_line<O: Sink>(to: &mut O, which: Line) -> Result<(), Failed>
+    ensures { Writes O.held O.faults to.old to.new result (line_text which) }
+{
+    match which {
+        Line::Accepted { streams } => write_accepted(to, streams),
+        Line::Usage(usage) => write_usage(to, &usage),
+        Line::Refused(refusal) => write_refusal(to, &refusal),
+        Line::BadCapture(fault) => write_bad_capture(to, &fault),
+        Line::ReadFault => write_all(to, b"read fault\n"),
+        Line::WriteFault => write_all(to, b"write fault\n"),
+        Line::OutOfMemory => write_all(to, b"out of memory\n"),
+        Line::Sample {
+            seed,
+            streams,
+            packets,
+            bytes,
+            sum,
+        } => write_sample(to, seed, streams, packets, bytes, sum),
+    }
+}
