@@ -1,0 +1,4 @@
+pub mod Headers
+pub mod Values
+pub mod Several
+pub mod Kept
