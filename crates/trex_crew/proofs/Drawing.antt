@@ -32,5 +32,5 @@ pub worked_two : {G : Type 0} (entries : G → Option (List (ℕ × ℕ))) (roun
 worked_two entries round left right left' right' first other before after new one two = (
   one.0 ++ two.0,
   ap (λ l. l ++ after) (one.1 ∙ ap (λ l. one.0 ++ l) new ∙ append-nil one.0) ∙ ap (λ l. one.0 ++ l) two.1 ∙ sym (append_assoc one.0 two.0 before),
-  entered_two entries (λ n. n) one.0 two.0 round left right left' right' one.2 two.2,
+  entered_two entries (λ n. n) round one.0 two.0 left right left' right' one.2 two.2,
 )

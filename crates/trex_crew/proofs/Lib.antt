@@ -1,5 +1,6 @@
 pub mod Works
 pub mod Entries
+pub mod Cores
 pub mod Drawing
 pub mod Lent
 pub mod Fetched

@@ -1,9 +1,8 @@
 -- What a round makes of the works and the gates.
-use Rattle.std.proofs.Common.{◌≡◌, ℕ, suc, ◌+◌, ◌<◌, ◌≤◌, ◌^◌, List, [], ◌∷◌, length, map, get_or, refl, sym, ap, subst, ◌∙◌, arith, Bool, true, false, Option, count_by}
+use Rattle.std.proofs.Common.{◌≡◌, ℕ, ◌+◌, ◌<◌, ◌≤◌, ◌^◌, List, [], ◌∷◌, length, map, get_or, refl, sym, ap, subst, ◌∙◌, arith, true, Option, IsPermutation}
 use Rattle.std.proofs.Math.ListN.{get_or-eq_default}
-use Rattle.std.proofs.lemmas.List.Sums.{sum_by-cons}
-use Rattle.std.proofs.lemmas.Bool.Decides.{nat_tests}
-use Rattle.std.specs.Prelude.{◌==◌, ◌&&◌, if◌then◌else◌}
+use Rattle.std.proofs.lemmas.List.Sorted.{IsPermutation-map, IsPermutation-trans}
+use Rattle.std.proofs.lemmas.Simd.{map-map}
 use Rattle.std.specs.List.{AllByRecursion}
 use mathlib.Core.Logic.{dite}
 use native.Mathlib.Decide.{ℕ_discrete, dec_lt}
@@ -14,59 +13,22 @@ use Rattle.trex_claims.specs.Board.{IsPiece, below}
 use Rattle.trex_claims.specs.Moves.{vacant, turned_by, stand_at, rested, begun}
 use Rattle.trex_claims.specs.Boards.{Me}
 use Rattle.trex_claims.proofs.CallerLemmas.{stand_rested}
-use Rattle.trex_claims.proofs.Totals.{not_yet, sure}
+use Rattle.trex_claims.proofs.Totals.{sure}
 use Rattle.trex_crew.specs.Orders.{AreInOrder}
-use Rattle.trex_crew.specs.Gates.{Entered}
+use Rattle.trex_crew.specs.Told.{Entered}
 use Rattle.trex_crew.specs.Workers.{MayDraw}
 use Rattle.trex_crew.specs.Rounds.{IsLent, AreLent, ArePieces}
-
--- how often a core stands in a list, where the round is the one that is asked for
-counted_cores : (b : Bool) (k : ℕ) (cores : List ℕ) → count_by (λ n. b && (n == k)) cores ≡ (if b then times k cores else 0)
-counted_cores true k [] = refl
-counted_cores true k (x ∷ xs) = let h = counted_cores true k xs in sum_by-cons (λ (n : ℕ). if true && (n == k) then 1 else 0) x xs ∙ ap (λ n. (if x == k then 1 else 0) + n) h
-counted_cores false k [] = refl
-counted_cores false k (x ∷ xs) = let h = counted_cores false k xs in sum_by-cons (λ (n : ℕ). if false && (n == k) then 1 else 0) x xs ∙ ap (λ n. 0 + n) h
-
-abbrev hit : ℕ → ℕ → ℕ
-hit core k = if core == k then 1 else 0
-
-one_below : (k place : ℕ) → hit place k + below k place ≡ below k (place + 1)
-one_below k place = grind (arith, nat_tests)
-
--- works in order have each core once
-counted_works : {T : Type 0} (b : Bool) (k : ℕ) (core_of : T → ℕ) (place : ℕ) (works : List T) → AreInOrder core_of place works
-    → count_by (λ w. b && (core_of w == k)) works + (if b then below k place else 0) ≡ (if b then below k (place + length works) else 0)
-counted_works true k core_of place [] order = let z : place ≡ place + 0 = omega arith in let e : below k place ≡ below k (place + 0) = ap (below k) z in omega arith
-counted_works {T = T} true k core_of place (x ∷ xs) (here, rest) =
-    let h = counted_works true k core_of (place + 1) xs rest in
-    let s = sum_by-cons (λ (w : T). if true && (core_of w == k) then 1 else 0) x xs in
-    let z : place + 1 + length xs ≡ place + suc (length xs) = omega arith in
-    let e : below k (place + 1 + length xs) ≡ below k (place + suc (length xs)) = ap (below k) z in
-    let o = one_below k place in
-    let c : hit (core_of x) k ≡ hit place k = ap (λ n. hit n k) here in
-    omega (arith, h, s, e, o, c)
-counted_works false k core_of place [] order = refl
-counted_works {T = T} false k core_of place (x ∷ xs) (here, rest) =
-    let h = counted_works false k core_of (place + 1) xs rest in
-    let s = sum_by-cons (λ (w : T). if false && (core_of w == k) then 1 else 0) x xs in
-    omega (arith, h, s)
+use Rattle.trex_crew.proofs.Cores.{cores_in_order, each_core}
 
 -- the cores that were put back are those of the works
 pub entered_works : {G T : Type 0} (entries : G → Option (List (ℕ × ℕ))) (core_of : T → ℕ) (cores : List ℕ) (works : List T) (round : ℕ) (old new : List G)
     → ((core : ℕ) → times core cores ≡ below core (length works)) → AreInOrder core_of 0 works → Entered entries (λ n. n) cores round old new → Entered entries core_of works round old new
-entered_works {T = T} entries core_of cores works round old new once order entered told =
-    let e = entered told in (
+entered_works {T = T} entries core_of cores works round old new once order entered tell =
+    let e = entered tell in
+    let same : IsPermutation cores (map core_of works) = subst (IsPermutation cores) (sym (cores_in_order core_of 0 works order)) (each_core (length works) cores once) in (
       e.0,
-      λ r k.
-          let b = round == r in
-          let n = e.1 r k in
-          let all : 0 + length works ≡ length works = omega arith in
-          let cores_are = counted_cores b k cores in
-          let works_are = counted_works b k core_of 0 works order in
-          let none : (if b then below k 0 else 0) ≡ 0 = elim b as (λ x. (if x then below k 0 else 0) ≡ 0) [ true ↦ not_yet k 0 (omega arith) | false ↦ refl ] in
-          let same : (if b then times k cores else 0) ≡ (if b then below k (0 + length works) else 0) =
-          ap (λ m. if b then m else 0) (once k ∙ ap (below k) (sym all)) in
-          omega (arith, n, cores_are, works_are, none, same),
+      e.1,
+      IsPermutation-trans _ _ _ e.2 (subst (IsPermutation (map (λ n. (round, n)) cores)) (map-map (λ n. (round, n)) core_of works) (IsPermutation-map (λ n. (round, n)) cores (map core_of works) same)),
     )
 
 module _ {T : Type 0} (core_of turns : T → ℕ) (stem : T → List (List ℕ)) (settled sound : T → Type 0) (turned : T → T)

@@ -1,5 +1,5 @@
--- What gates tell of their entries. Own.
-use Rattle.std.specs.Prelude.{◌≡◌, ℕ, ◌+◌, ◌==◌, ◌&&◌, List, [], ◌∷◌, ◌++◌, if◌then◌else◌, Option, None, Some, Bool, count_by, sum_by}
+-- What a gate tells of its entries. Own.
+use Rattle.std.specs.Prelude.{◌≡◌, ℕ, List, [], ◌∷◌, ◌++◌, if◌then◌else◌, Option, None, Some, Bool}
 use Rattle.std.specs.List.{AllByRecursion}
 
 -- A gate was entered: it tells nothing, or it told its entries before and tells them with this one at the end.
@@ -8,14 +8,10 @@ HasEntered old None round core = Unit {0}
 HasEntered None (Some new) round core = ⊥
 HasEntered (Some old) (Some new) round core = new ≡ old ++ (round, core) ∷ []
 
--- an entry is of a round and a core
-abbrev pub is_entry : ℕ → ℕ → ℕ × ℕ → Bool
-is_entry round core entry = (entry.0 == round) && (entry.1 == core)
-
--- how often a gate was entered in a round for a core, as far as it tells
-abbrev pub times : ℕ → ℕ → Option (List (ℕ × ℕ)) → ℕ
-times round core None = 0
-times round core (Some entries) = count_by (is_entry round core) entries
+-- The entry that a gate tells last, where it tells, is this one.
+abbrev pub LastIs : Option (List (ℕ × ℕ)) → ℕ → ℕ → Type 0
+LastIs None round core = Unit {0}
+LastIs (Some entries) round core = (before : List (ℕ × ℕ)) × (entries ≡ before ++ (round, core) ∷ [])
 
 -- what a gate with a list keeps
 pub record ListOf : Type 0 where
@@ -35,13 +31,3 @@ Tells (Some entries) = Unit {0}
 -- all gates tell
 abbrev pub AllTell : {G : Type 0} → (G → Option (List (ℕ × ℕ))) → List G → Type 0
 AllTell entries gates = AllByRecursion (λ gate. Tells (entries gate)) gates
-
--- how often the gates were entered together in a round for a core
-abbrev pub all_times : {G : Type 0} → (G → Option (List (ℕ × ℕ))) → ℕ → ℕ → List G → ℕ
-all_times entries round core gates = sum_by (λ gate. times round core (entries gate)) gates
-
--- Where all gates tell in the end, they told before, and each work's core was entered once more, in that round.
-abbrev pub Entered : {G T : Type 0} → (G → Option (List (ℕ × ℕ))) → (T → ℕ) → List T → ℕ → List G → List G → Type 0
-Entered entries core_of works round old new =
-    AllTell entries new → AllTell entries old
-    × ((r c : ℕ) → all_times entries r c new ≡ all_times entries r c old + count_by (λ work. (round == r) && (core_of work == c)) works)

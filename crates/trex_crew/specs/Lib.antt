@@ -1,4 +1,5 @@
 pub mod Gates
+pub mod Told
 pub mod Crews
 pub mod Lending
 pub mod Workers

@@ -3,7 +3,7 @@ use Rattle.std.specs.Prelude.{◌≡◌, ℕ, ◌<◌, ◌^◌, List, ◌++◌, 
 use Rattle.trex_claims.specs.Boards.{Me}
 use Rattle.trex_claims.specs.declared.view.View.{View}
 use Rattle.trex_claims.specs.Moves.{HoldsNone, stand_at}
-use Rattle.trex_crew.specs.Gates.{Entered}
+use Rattle.trex_crew.specs.Told.{Entered}
 
 module _ {T : Type 0} where
   -- a seat of the open round with this base that may draw

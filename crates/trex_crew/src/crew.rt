@@ -5,7 +5,7 @@ ghost use Rattle.std.specs.List.{AllByRecursion};
 ghost use Rattle.std.specs.Borrow.{sem};
 ghost use Rattle.std.proofs.Props.{props};
 ghost use Rattle.trex_claims.specs.Boards.{board_id, cores_of};
-ghost use Rattle.trex_crew.specs.Gates.{Entered};
+ghost use Rattle.trex_crew.specs.Told.{Entered};
 ghost use Rattle.trex_crew.specs.Orders.{AreInOrder};
 ghost use Rattle.trex_crew.specs.Rounds.{IsIdle, IsFirst-prop, IsEmpty-prop};
 

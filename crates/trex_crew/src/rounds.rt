@@ -4,7 +4,7 @@ ghost use Rattle.std.specs.Prelude.{◌≡◌, ◌+◌, ◌<◌, ◌≤◌, ◌^
 ghost use Rattle.std.specs.List.{AllByRecursion};
 ghost use Rattle.trex_claims.specs.Boards.{board_id, cores_of};
 ghost use Rattle.trex_crew.specs.Orders.{AreInOrder};
-ghost use Rattle.trex_crew.specs.Gates.{Entered};
+ghost use Rattle.trex_crew.specs.Told.{Entered};
 ghost use Rattle.trex_crew.specs.Rounds.{IsCalm, AreEmpty};
 
 use crate::fetching::fetch_all;

@@ -1,11 +1,25 @@
 // One turn of each work, by one worker.
 
-ghost use Rattle.std.specs.Prelude.{◌≡◌, ◌<◌, ◌≤◌, ◌^◌, [], ◌∷◌, ◌++◌, length, map};
+ghost use Rattle.std.specs.Prelude.{◌≡◌, ◌+◌, ◌<◌, ◌^◌, [], ◌∷◌, map};
 ghost use Rattle.std.specs.List.{AllByRecursion};
-ghost use Rattle.trex_crew.specs.Gates.{Entered, HasEntered};
+ghost use Rattle.trex_crew.specs.Gates.{HasEntered, LastIs};
+ghost use Rattle.trex_crew.specs.Told.{Entered};
 
 use crate::gate::Gate;
 use trex_claims::Piece;
+
+/// A work takes its turn, for which the gate was entered.
+pub(crate) fn take_turn<T: Piece, G: Gate>(work: &mut T, _gate: &G, _round: u64)
+    requires entered { LastIs (G.entries _gate.now) _round (T.core_of work.old) }
+    requires turns { T.turns_of work.old < 2 ^ 63 }
+    ensures turned { work.new ≡ T.turned work.old }
+    ensures core { T.core_of work.new ≡ T.core_of work.old }
+    ensures turns { T.turns_of work.new ≡ T.turns_of work.old + 1 }
+    ensures stem { T.stem_of work.new ≡ T.stem_of work.old }
+    ensures settled { T.is_settled work.new }
+{
+    work.turn();
+}
 
 /// The gate is entered, and then the work takes its turn.
 fn turn_one<T: Piece, G: Gate>(work: &mut T, gate: &mut G, round: u64)
@@ -14,7 +28,7 @@ fn turn_one<T: Piece, G: Gate>(work: &mut T, gate: &mut G, round: u64)
     ensures gate { HasEntered (G.entries gate.old) (G.entries gate.new) round (T.core_of work.old) }
 {
     gate.enter(round, work.core());
-    work.turn();
+    take_turn(work, gate, round);
 }
 
 /// Each work takes its turn, by one worker.

@@ -8,6 +8,7 @@ ghost use Rattle.trex_crew.specs.Gates.{HasEntered};
 ghost use Rattle.trex_crew.specs.Workers.{MayDraw, HasDrawn, Worked};
 
 use crate::gate::Gate;
+use crate::turns::take_turn;
 use trex_claims::{Board, Claim, Piece, Seat};
 
 /// The gate is entered, and then the claimed piece takes its turn and is put back.
@@ -30,7 +31,7 @@ fn turn_claimed<T: Piece, G: Gate>(
 {
     gate.enter(round, claim.core());
     let mut piece = board.take(seat, &claim);
-    piece.turn();
+    take_turn(&mut piece, gate, round);
     board.put(seat, claim, piece);
 }
 

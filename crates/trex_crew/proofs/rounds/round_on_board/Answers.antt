@@ -7,5 +7,5 @@ pub returns-clause-gates : goal.returns-clause-gates
 returns-clause-gates g c =
     let n = c.min-workers.result in
     let gates = c.args.gates.now in
-    let e = entered_beside g.G.Gate.entries g.T.Piece.core_of c.args.works.now.items c.args.round (take n gates) c.round_by_gates.new.gates (drop n gates) c.round_by_gates.ensures.gates in
+    let e = entered_beside g.G.Gate.entries g.T.Piece.core_of c.args.round c.args.works.now.items (take n gates) c.round_by_gates.new.gates (drop n gates) c.round_by_gates.ensures.gates in
     rw take-append-drop at e

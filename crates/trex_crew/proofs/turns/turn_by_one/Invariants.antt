@@ -1,5 +1,5 @@
 use Rattle.std.proofs.Common.{◌≡◌, ◌++◌, ◌∷◌, [], map, take, drop}
-use Rattle.trex_crew.specs.Gates.{Entered}
+use Rattle.trex_crew.specs.Told.{Entered}
 use Rattle.trex_crew.proofs.turns.turn_by_one.Given as goal
 
 abbrev pub invariant-loop-work : goal.invariant-loop-work
