@@ -22,7 +22,7 @@ mode_by kind size =
     else if kind % 3 == 1 then SingleBurst (1 + size % 1000)
     else MultiBurst (1 + size % 100) 1000 (1 + size % 10)
 
--- An address that counts from 16.0.1.1 to 16.0.1.254 is the IPv4 source, and a random port from 1024 on the UDP source; then both checksums
+-- An address that counts from 16.0.0.1 to 16.0.0.254 is the IPv4 source, and a random port from 1024 on the UDP source; then both checksums
 -- are fixed.
 abbrev pub instructions : List Instruction
 instructions =
