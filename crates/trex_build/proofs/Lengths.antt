@@ -1,25 +1,25 @@
 -- How long headers and packets are.
-use Rattle.std.proofs.Common.{◌≡◌, ℕ, ◌+◌, nat_le, nat_lt, Bool, true, false, if◌then◌else◌, List, [], ◌∷◌, ◌++◌, length, slice_get, sum_by, Option, None, Some, refl, sym, ap, ◌∙◌, arith, length-append}
+use Rattle.std.proofs.Common.{◌≡◌, ℕ, ◌+◌, nat_le, nat_lt, true, false, if◌then◌else◌, List, [], ◌∷◌, length, slice_get, sum_by, Option, None, Some, refl, ap, ◌∙◌, arith, length-append}
 use Rattle.std.proofs.lemmas.List.Sums.{sum_by-cons}
 use Rattle.std.proofs.lemmas.Bool.Decides.{nat_tests}
 use Rattle.trex_build.specs.Layer.{Layer, Ethernet, Vlan, Ipv4, Tcp, Udp, Raw}
-use Rattle.trex_build.specs.Header.{sealed, ipv4_front, tcp_front, udp_front, addresses, header_of}
-use Rattle.trex_build.specs.Built.{built, bytes_behind, header_length, too_long}
+use Rattle.trex_build.specs.Header.{sealed, ipv4_front, tcp_front, udp_front, header_of}
+use Rattle.trex_build.specs.Built.{bytes_behind, header_length, too_long}
 
 -- a header is as long as its fields and its checksum
 length-sealed : (written : ℕ → ℕ) (pseudo front back payload : List ℕ) → length (sealed written pseudo front back payload) ≡ length front + (2 + length back)
 unfolding sealed
 length-sealed written pseudo front back payload = length-append front _ ∙ omega arith
 
-length-ipv4_front : (tos total id frag ttl proto : ℕ) → length (ipv4_front tos total id frag ttl proto) ≡ 10
+pub length-ipv4_front : (tos total id frag ttl proto : ℕ) → length (ipv4_front tos total id frag ttl proto) ≡ 10
 unfolding ipv4_front
 length-ipv4_front tos total id frag ttl proto = refl
 
-length-tcp_front : (sport dport seq ack flags window : ℕ) → length (tcp_front sport dport seq ack flags window) ≡ 16
+pub length-tcp_front : (sport dport seq ack flags window : ℕ) → length (tcp_front sport dport seq ack flags window) ≡ 16
 unfolding tcp_front
 length-tcp_front sport dport seq ack flags window = refl
 
-length-udp_front : (sport dport len : ℕ) → length (udp_front sport dport len) ≡ 6
+pub length-udp_front : (sport dport len : ℕ) → length (udp_front sport dport len) ≡ 6
 unfolding udp_front
 length-udp_front sport dport len = refl
 

@@ -1,5 +1,5 @@
 -- That the headers of a packet verify, read from its bytes.
-use Rattle.std.specs.Prelude.{◌≡◌, ℕ, ◌+◌, ◌-◌, ◌||◌, IsTrue, List, ◌∷◌, ◌++◌, length, drop, slice_index, sum_by}
+use Rattle.std.specs.Prelude.{◌≡◌, ℕ, ◌+◌, ◌-◌, IsTrue, List, ◌∷◌, ◌++◌, length, drop, slice_index, sum_by}
 use Rattle.std.specs.List.{slice_range}
 use Rattle.byteorder.specs.Endian.{big_bytes}
 use Rattle.trex_sum.specs.Checksum.{sum_of, Verifies}

@@ -9,7 +9,6 @@ use crate::layer::LayerSpec;
 use crate::order::misplaced;
 use std::alloc::{AllocError, Global};
 
-
 /// Why layers give no packet.
 #[derive(Clone, Copy, Debug, PartialEq, Eq)]
 pub enum BuildFault {

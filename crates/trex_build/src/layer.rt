@@ -8,7 +8,10 @@ pub enum LayerSpec {
         etype: u16,
     },
     /// A tag (IEEE 802.1Q, 9.6): its control information, and the type as in Ethernet's header.
-    Vlan { tci: u16, etype: u16 },
+    Vlan {
+        tci: u16,
+        etype: u16,
+    },
     /// An IPv4 header without options (RFC 791, section 3.1): type of service, identification, flags and fragment offset, time to
     /// live, the protocol that counts where neither TCP nor UDP follows, and the two addresses.
     Ipv4 {
@@ -30,7 +33,12 @@ pub enum LayerSpec {
         window: u16,
     },
     /// A UDP header (RFC 768): its ports.
-    Udp { sport: u16, dport: u16 },
+    Udp {
+        sport: u16,
+        dport: u16,
+    },
     /// The payload.
-    Raw { bytes: Vec<u8> },
+    Raw {
+        bytes: Vec<u8>,
+    },
 }

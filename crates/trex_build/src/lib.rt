@@ -3,8 +3,12 @@
 
 mod building;
 mod header;
+mod laws;
 mod layer;
 mod order;
+#[cfg(test)]
+mod tests;
 
 pub use building::{BuildFault, build};
+pub use laws::built_headers_verify;
 pub use layer::LayerSpec;

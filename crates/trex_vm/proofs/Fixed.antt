@@ -6,17 +6,12 @@ use Rattle.std.proofs.lemmas.Bool.Decides.{nat_tests}
 use Rattle.std.specs.List.{slice_range}
 use Rattle.byteorder.specs.Endian.{big_bytes, big_number}
 use Rattle.trex_sum.specs.Checksum.{sum_of, fold_of, Verifies}
-use Rattle.trex_sum.proofs.SumLaws.{sum_of-append}
+use Rattle.trex_sum.proofs.Completing.{Completes, Completes-plain, Completes-ones_for_zero, sum_of-field}
 use Rattle.trex_fields.specs.Bytes.{put}
 use Rattle.trex_fields.proofs.Puts.{length-put, get_or-put_before, put-put, slice_range-put, slice_range-same}
 use Rattle.trex_vm.specs.declared.instr.L4Kind.{L4Kind}
 use Rattle.trex_vm.specs.declared.instr.L4Kind.TheVariants.{Tcp, Udp}
 use Rattle.trex_vm.specs.Fix.{summed, header_length, header_at, written_sum, least_segment, sum_place, segment_length, segment_fits, pseudo_header, segment_at}
-
--- what is written into the field makes every sum fold to all ones
-pub record Completes (written : ℕ → ℕ) : Type 0 where
-  pub folds : (s : ℕ) → fold_of (s + written (65535 - fold_of s)) ≡ 65535
-  pub small : (s : ℕ) → written (65535 - fold_of s) < 65536
 
 -- the part holds the field: so many whole words, the field, and the rest
 pub record HoldsField (part : List ℕ → List ℕ) (field : ℕ) (b : List ℕ) : Type 0 where
@@ -26,59 +21,10 @@ pub record HoldsField (part : List ℕ → List ℕ) (field : ℕ) (b : List ℕ
   pub room : field + 2 ≤ length b
   pub is : (x y : ℕ) → part (put field (x ∷ y ∷ []) b) ≡ front ++ (x ∷ y ∷ back)
 
-fold_of-zero : fold_of 0 ≡ 0
-unfolding fold_of
-fold_of-zero = refl
-
-fold_of-pos : (s : ℕ) → fold_of (suc s) ≡ 1 + s % 65535
-unfolding fold_of
-fold_of-pos s = grind (arith, nat_tests)
-
--- a sum with the complement of its fold added folds to all ones
-folds_up : (s n : ℕ) → n ≡ 65535 - fold_of s → fold_of (s + n) ≡ 65535
-folds_up zero n is =
-    let all : zero + n ≡ suc 65534 = omega (arith, fold_of-zero) in
-    ap fold_of all ∙ fold_of-pos 65534
-folds_up (suc s) n is =
-    let known = fold_of-pos s in
-    let next : suc s + n ≡ suc (s + n) = omega arith in
-    ap fold_of next ∙ fold_of-pos (s + n) ∙ omega arith
-
--- a sum that folds to all ones does so still with all ones added
-folds_over : (s : ℕ) → fold_of s ≡ 65535 → fold_of (s + 65535) ≡ 65535
-folds_over zero is = absurd (omega (arith, fold_of-zero))
-folds_over (suc s) is =
-    let known = fold_of-pos s in
-    let next : suc s + 65535 ≡ suc (s + 65535) = omega arith in
-    ap fold_of next ∙ fold_of-pos (s + 65535) ∙ omega arith
-
-fold_of-bound : (s : ℕ) → fold_of s ≤ 65535
-fold_of-bound zero = omega (arith, fold_of-zero)
-fold_of-bound (suc s) = omega (arith, fold_of-pos s)
-
--- the complement as it is
-pub Completes-plain : Completes (λ n. n)
-Completes-plain = record { folds = λ s. folds_up s (65535 - fold_of s) refl; small = λ s. omega arith }
-
-written_sum-suc : (n : ℕ) → written_sum Udp (suc n) ≡ suc n
-written_sum-suc n = grind (arith, nat_tests)
-
-udp_folds : (s n : ℕ) → n ≡ 65535 - fold_of s → fold_of (s + written_sum Udp n) ≡ 65535
-udp_folds s zero is = folds_over s (omega (arith, fold_of-bound s))
-udp_folds s (suc n) is = rw (written_sum-suc n) (folds_up s (suc n) is)
-
-udp_small : (n : ℕ) → n < 65536 → written_sum Udp n < 65536
-udp_small zero below = omega arith
-udp_small (suc n) below = rw (written_sum-suc n) below
-
 -- the complement, with all ones in place of zero
 pub Completes-written_sum : (kind : L4Kind) → Completes (written_sum kind)
 Completes-written_sum Tcp = Completes-plain
-Completes-written_sum Udp = record { folds = λ s. udp_folds s (65535 - fold_of s) refl; small = λ s. udp_small (65535 - fold_of s) (omega arith) }
-
--- the sum of a part, by the number in its field
-sum_of-field : (front back : List ℕ) (x y : ℕ) → length front % 2 ≡ 0 → sum_of (front ++ (x ∷ y ∷ back)) ≡ sum_of front + sum_of back + (256 * x + y)
-sum_of-field front back x y even = sum_of-append front (x ∷ y ∷ back) even ∙ omega arith
+Completes-written_sum Udp = Completes-ones_for_zero
 
 -- a part whose field is summed verifies
 pub summed-verifies : (written : ℕ → ℕ) (part : List ℕ → List ℕ) (field : ℕ) (b : List ℕ) → Completes written → HoldsField part field b

@@ -20,7 +20,8 @@ use Rattle.trex_vm.specs.Write.{bytes_in, sum_in, shifted, masked, number_at}
 use Rattle.trex_vm.specs.Packet.{wrote, applied}
 use Rattle.trex_vm.specs.Cover.{writes_at, writes_size, writes_byte, IsWithin, Covers, CoversSegment, HeaderVerifies}
 use Rattle.trex_vm.specs.Rules.{writes_past, has_ipv4, misses_header, header_place}
-use Rattle.trex_vm.proofs.Fixed.{Completes-plain, Completes-written_sum, HoldsField-header_at, HoldsField-segment_at, summed-verifies, segment_fits-tells, number-same, pseudo_header-same, sum_place-within}
+use Rattle.trex_sum.proofs.Completing.{Completes-plain}
+use Rattle.trex_vm.proofs.Fixed.{Completes-written_sum, HoldsField-header_at, HoldsField-segment_at, summed-verifies, segment_fits-tells, number-same, pseudo_header-same, sum_place-within}
 
 -- some bytes of a size stand at a place, and the others are as they were
 pub record Puts (at size : ℕ) (b c : List ℕ) : Type 0 where

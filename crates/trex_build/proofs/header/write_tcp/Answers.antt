@@ -1,4 +1,4 @@
-use Rattle.std.proofs.Common.{◌≡◌, ◌+◌, ◌-◌, [], ◌∷◌, ◌++◌, ℕ, length, ap, ◌∙◌, option_map, refl, arith}
+use Rattle.std.proofs.Common.{◌≡◌, ◌+◌, ◌-◌, ◌∷◌, ◌++◌, ℕ, length, ap, ◌∙◌, option_map, refl, arith}
 use Rattle.byteorder.specs.Endian.{big_bytes}
 use Rattle.trex_sum.specs.Checksum.{sum_of, fold_of}
 use Rattle.trex_build.specs.Header.{addresses_of, pseudo_header, sealed, tcp_back}
