@@ -5,6 +5,8 @@ use Rattle.std.specs.Fmt.{decimal}
 use Rattle.trex_pcap.specs.declared.fault.CaptureFault.{CaptureFault}
 use Rattle.trex_pcap.specs.declared.fault.CaptureFault.TheVariants.{Torn, BadMagic, BadVersion, BadLink, TooMany, BadFraction, BadLength, Fault}
 use Rattle.trex_profile.specs.declared.refusal.Refusal.{Refusal}
+use Rattle.trex_io.specs.Seen.{Seen}
+use Rattle.trex_stats.specs.Counts.{Counts, flows_of, lines_in, lines_of, totals_of}
 use Rattle.trex_stats.specs.declared.line.FlowLine.{FlowLine}
 use Rattle.trex_stats.specs.declared.stats.Totals.{Totals}
 use Rattle.trex_words.specs.declared.asked.Usage.{Usage}
@@ -53,6 +55,14 @@ records_line t =
 -- what is counted of a capture: a line for each flow, and one for all records
 abbrev pub counts_text : List FlowLine → Totals → List ℕ
 counts_text flows totals = flat_map flow_line flows ++ records_line totals
+
+-- the same by what is kept
+abbrev pub kept_text : Counts → List ℕ
+kept_text c = counts_text (lines_in c.flows) (record { records = c.records; bytes = c.bytes; stamped = c.stamped })
+
+-- the same of a capture with these records
+unfoldable pub analysis_text : List Seen → List ℕ
+analysis_text rs = counts_text (lines_of rs (flows_of rs)) (totals_of rs)
 
 -- that a profile keeps all rules, and how many streams it has
 unfoldable pub accepted_line : ℕ → List ℕ

@@ -1,7 +1,8 @@
-ghost use Rattle.std.specs.List.{flat_map};
+ghost use Rattle.std.specs.Prelude.{◌≡◌, List};
+ghost use Rattle.trex_io.specs.Seen.{Seen};
 ghost use Rattle.trex_io.specs.Texts.{Writes};
-ghost use Rattle.trex_stats.specs.Counts.{lines_in};
-ghost use Rattle.trex_report.specs.Texts.{flow_line, records_line, counts_text};
+ghost use Rattle.trex_stats.specs.Counts.{StandsFor};
+ghost use Rattle.trex_report.specs.Texts.{flow_line, records_line, kept_text, analysis_text};
 
 use crate::gather::Gathered;
 use trex_io::{Failed, Sink, write_all};
@@ -39,8 +40,8 @@ fn write_records<O: Sink>(to: &mut O, totals: &Totals) -> Result<(), Failed>
 
 /// Writes a line for each flow, in rising order of number, and one for all records. No memory is taken.
 pub fn write_flows<O: Sink>(to: &mut O, stats: &Stats) -> Result<(), Failed>
-    ensures { Writes O.held O.faults to.old to.new result (counts_text (lines_in stats.now.flows)
-        (record { records = stats.now.records; bytes = stats.now.bytes; stamped = stats.now.stamped })) }
+    ensures writes { Writes O.held O.faults to.old to.new result (kept_text stats.now) }
+    ensures analysis { (rs : List Seen) → StandsFor stats.now rs → kept_text stats.now ≡ analysis_text rs }
 {
     for flow in stats.flows() {
         if let Err(failed) = write_flow(to, &flow) {

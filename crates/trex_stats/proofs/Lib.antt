@@ -3,3 +3,4 @@ pub mod Members
 pub mod Pushes
 pub mod Spans
 pub mod Standing
+pub mod Listed

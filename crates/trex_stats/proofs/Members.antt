@@ -36,12 +36,12 @@ has-insert (x ∷ xs) n q =
 
 -- ---- lists with the same numbers
 
-both_ways : (a b : Bool) → (a ≡ true → b ≡ true) → (b ≡ true → a ≡ true) → a ≡ b
+pub both_ways : (a b : Bool) → (a ≡ true → b ≡ true) → (b ≡ true → a ≡ true) → a ≡ b
 both_ways true b to from = sym (to refl)
 both_ways false true to from = from refl
 both_ways false false to from = refl
 
-here_or_there : (a b : Bool) → a ≡ false → (a || b) ≡ true → b ≡ true
+pub here_or_there : (a b : Bool) → a ≡ false → (a || b) ≡ true → b ≡ true
 here_or_there true b absent both = cc
 here_or_there false b absent both = both
 
@@ -113,7 +113,7 @@ all_from : (g : ℕ) (xs : List ℕ) → ((q : ℕ) → has xs q ≡ true → q 
 all_from g [] each = tt
 all_from g (x ∷ xs) each = (each x (has_head x xs), all_from g xs (λ q there. each q (has_tail x q xs there)))
 
-greatest_bounds : (xs : List ℕ) (q : ℕ) → has xs q ≡ true → q ≤ greatest_of xs
+pub greatest_bounds : (xs : List ℕ) (q : ℕ) → has xs q ≡ true → q ≤ greatest_of xs
 greatest_bounds [] q there = cc
 greatest_bounds (x ∷ xs) q there =
     elim (cases_lt x q) [

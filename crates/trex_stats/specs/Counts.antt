@@ -1,14 +1,16 @@
 -- What is counted of the records of a capture. Own.
-use Rattle.std.specs.Prelude.{◌≡◌, ℕ, ◌==◌, if◌then◌else◌, List, [], ◌∷◌, ◌++◌, length, map, count_by, is_some, Option, Some, None}
-use Rattle.std.specs.List.{filter_map, sum_by}
+use Rattle.std.specs.Prelude.{◌≡◌, ℕ, ◌+◌, ◌==◌, if◌then◌else◌, List, [], ◌∷◌, ◌++◌, length, map, count_by, is_some, option_map, Option, Some, None}
+use Rattle.std.specs.List.{filter, filter_map, range_with_len, sum_by}
 use Rattle.trex_io.specs.Seen.{Seen}
 use Rattle.trex_stamp.specs.Stamp.{stamp_of}
 use Rattle.trex_stamp.specs.declared.header.Stamp.{Stamp}
 use Rattle.trex_stats.specs.declared.arrival.Arrival.{Arrival}
 use Rattle.trex_stats.specs.declared.flow.Flow.{Flow}
 use Rattle.trex_stats.specs.declared.line.FlowLine.{FlowLine}
-use Rattle.trex_stats.specs.Arrivals.{line_of}
+use Rattle.trex_stats.specs.declared.stats.Totals.{Totals}
+use Rattle.trex_stats.specs.Arrivals.{greatest_of, line_of}
 use Rattle.trex_stats.specs.Kept.{AreFlows, line_in}
+use Rattle.trex_stats.specs.Ranges.{has}
 
 -- the stamp at the end of captured bytes, where they are the whole packet
 abbrev pub whole_stamp : List ℕ → ℕ → Option Stamp
@@ -48,6 +50,22 @@ pub record StandsFor (c : Counts) (rs : List Seen) : Type 0 where
   pub bytes : c.bytes ≡ sum_by (λ r. length r.bytes) rs
   pub stamped : c.stamped ≡ count_by (λ r. is_some (stamp_at r)) rs
   pub flows : AreFlows c.flows (arrivals rs)
+
+-- the flow numbers of the stamped packets among some records, in the order of the packets
+abbrev pub flow_numbers : List Seen → List ℕ
+flow_numbers rs = filter_map (λ r. option_map (λ s. s.flow) (stamp_at r)) rs
+
+-- the flows that have packets among some records, in rising order of number
+abbrev pub flows_of : List Seen → List ℕ
+flows_of rs = filter (has (flow_numbers rs)) (range_with_len 0 (greatest_of (flow_numbers rs) + 1))
+
+-- the sums over some records
+abbrev pub totals_of : List Seen → Totals
+totals_of rs = record {
+  records = length rs;
+  bytes = sum_by (λ r. length r.bytes) rs;
+  stamped = count_by (λ r. is_some (stamp_at r)) rs;
+}
 
 -- the lines of what is kept of flows
 abbrev pub lines_in : List (ℕ × Flow) → List FlowLine

@@ -6,7 +6,7 @@ ghost use Rattle.std.specs.Map.{keys_of, lookup};
 ghost use Rattle.std.specs.Ordering.{nat_cmp};
 ghost use Rattle.trex_io.specs.Seen.{Seen};
 ghost use Rattle.trex_stats.specs.Arrivals.{line_of};
-ghost use Rattle.trex_stats.specs.Counts.{StandsFor, arrivals, lines_in, lines_of, whole_stamp, with_one};
+ghost use Rattle.trex_stats.specs.Counts.{StandsFor, arrivals, flows_of, lines_in, lines_of, totals_of, whole_stamp, with_one};
 ghost use Rattle.trex_stats.specs.Kept.{AllUpTo, AreFlows};
 ghost use Rattle.trex_stats.specs.Ranges.{has};
 ghost use Rattle.trex_stats.specs.declared.arrival.Arrival.{Arrival};
@@ -95,7 +95,8 @@ impl Stats {
 
     /// The sums over all records.
     pub fn totals(&self) -> Totals
-        ensures { result ≡ record { records = self.now.records; bytes = self.now.bytes; stamped = self.now.stamped } }
+        ensures kept { result ≡ record { records = self.now.records; bytes = self.now.bytes; stamped = self.now.stamped } }
+        ensures all { (rs : List Seen) → StandsFor self.now rs → result ≡ totals_of rs }
     {
         Totals {
             records: self.records,
@@ -125,6 +126,7 @@ impl Stats {
         ensures rest { result ≡ lines_in self.now.flows }
         ensures rise { IsStrictlySortedBy nat_cmp (keys_of self.now.flows) }
         ensures lines { (rs : List Seen) → StandsFor self.now rs → result ≡ lines_of rs (keys_of self.now.flows) }
+        ensures all { (rs : List Seen) → StandsFor self.now rs → result ≡ lines_of rs (flows_of rs) }
         ensures present { (rs : List Seen) → StandsFor self.now rs
             → (q : ℕ) → IsTrue (has (keys_of self.now.flows) q) ↔ (0 < length (arrivals rs q)) }
     {

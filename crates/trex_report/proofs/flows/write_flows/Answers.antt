@@ -1,4 +1,4 @@
-use Rattle.std.proofs.Common.{◌≡◌, List, [], ◌∷◌, ◌++◌, sym, ap, ◌∙◌, subst, append_assoc, arith}
+use Rattle.std.proofs.Common.{◌≡◌, List, [], ◌∷◌, ◌++◌, refl, sym, ap, ◌∙◌, subst, append_assoc, arith}
 use Rattle.std.proofs.lemmas.Grind.{common_steps, flat_map-append}
 use Rattle.std.proofs.lemmas.List.{append-nil}
 use Rattle.std.specs.List.{flat_map}
@@ -6,8 +6,9 @@ use Rattle.trex_io.specs.Texts.{Wrote, WrotePart}
 use Rattle.trex_io.proofs.Causes.{HasCause-failed}
 use Rattle.trex_io.proofs.Texts.{Wrote-after, WrotePart-after, WrotePart-longer, Writes-after}
 use Rattle.trex_stats.specs.declared.line.FlowLine.{FlowLine}
-use Rattle.trex_stats.specs.Counts.{lines_in}
-use Rattle.trex_report.specs.Texts.{flow_line, records_line}
+use Rattle.trex_io.specs.Seen.{Seen}
+use Rattle.trex_stats.specs.Counts.{Counts, StandsFor, flows_of, lines_in, lines_of}
+use Rattle.trex_report.specs.Texts.{flow_line, records_line, kept_text, analysis_text}
 use Rattle.trex_report.proofs.flows.write_flows.Goals as goal
 
 -- the lines so far, one more line, and those after it
@@ -22,8 +23,21 @@ parted lines so_far rest after line whole next =
 pushed : (so_far : List FlowLine) (line : FlowLine) → flat_map flow_line (so_far ++ line ∷ []) ≡ flat_map flow_line so_far ++ flow_line line
 pushed so_far line = flat_map-append flow_line so_far (line ∷ []) ∙ ap (λ l. flat_map flow_line so_far ++ l) (append-nil (flow_line line))
 
-pub returns-in-Err : goal.returns-in-Err
-returns-in-Err g c =
+-- the lines of what is kept are those of the records
+analysis : (c : Counts) (rs : List Seen) (lines : List FlowLine) → StandsFor c rs → lines ≡ lines_in c.flows → lines ≡ lines_of rs (flows_of rs) → kept_text c ≡ analysis_text rs
+unfolding analysis_text
+analysis c rs lines stands kept all = rw (← kept, all, stands.records, stands.bytes, stands.stamped) refl
+
+pub returns-in-Err-clause-analysis : goal.returns-in-Err-clause-analysis
+returns-in-Err-clause-analysis g c rs stands =
+    analysis c.args.stats.now rs _ stands c.flows-flow-items.ensures.rest (c.flows-flow-items.ensures.all rs stands)
+
+pub returns-clause-analysis : goal.returns-clause-analysis
+returns-clause-analysis g c rs stands =
+    analysis c.args.stats.now rs _ stands c.flows-flow-items.ensures.rest (c.flows-flow-items.ensures.all rs stands)
+
+pub returns-in-Err-clause-writes : goal.returns-in-Err-clause-writes
+returns-in-Err-clause-writes g c =
     let held = g.O.Sink.held in
     let a = c.args.to.now in
     let b = c.write_flow.new.to in
@@ -53,10 +67,10 @@ loop-flow-preserved g c =
       faults = omega (arith, done.cause.later);
     }
 
-pub returns : goal.returns
-returns g c =
+pub returns-clause-writes : goal.returns-clause-writes
+returns-clause-writes g c =
     let held = g.O.Sink.held in
     let whole : lines_in c.args.stats.now.flows ≡ c.loop-flow.yielded = grind (arith, common_steps, c.in-None.ensures.steps) in
     let written = subst (λ (l : List FlowLine). Wrote held c.args.to.now c.loop-flow.to (flat_map flow_line l)) (sym whole) c.loop-flow.invariant.written in
-    rw (← c.totals.ensures)
+    rw (← c.totals.ensures.kept)
     (Writes-after held g.O.Sink.faults c.args.to.now c.loop-flow.to c.write_records.new.to c.write_records.result (flat_map flow_line (lines_in c.args.stats.now.flows)) _ written c.loop-flow.invariant.faults c.write_records.ensures)
