@@ -1,13 +1,12 @@
 -- The headers of the sample's template.
-use Rattle.std.proofs.Common.{◌≡◌, ℕ, zero, suc, ◌+◌, ◌-◌, ◌*◌, ◌≤◌, ◌<◌, List, [], ◌∷◌, ◌++◌, length, get_or, refl, sym, ap, ◌∙◌, arith}
+use Rattle.std.proofs.Common.{◌≡◌, ℕ, zero, suc, ◌+◌, ◌-◌, ◌≤◌, ◌<◌, List, ◌++◌, length, refl, sym, ◌∙◌, arith}
 use Rattle.std.specs.Prelude.{slice_index}
-use Rattle.std.proofs.Math.ListN.{replicate}
 use Rattle.std.proofs.lemmas.Bool.Decides.{nat_tests}
-use Rattle.std.proofs.lemmas.List.{length-append, length-replicate}
+use Rattle.std.proofs.lemmas.List.{length-replicate}
 use Rattle.trex_sum.specs.Checksum.{sum_of, fold_of}
 use Rattle.trex_vm.specs.declared.instr.L4Kind.TheVariants.{Udp}
 use Rattle.trex_vm.specs.Fix.{written_sum}
-use Rattle.trex_sample.specs.Template.{ethernet, checksum, pseudo_header, udp_with, ipv4, udp_sum, udp, zeros, template}
+use Rattle.trex_sample.specs.Template.{pseudo_header, udp_with, ipv4, udp_sum, udp, zeros, template}
 
 -- the headers on which fixes rest: version 4 and five words, UDP, and a whole UDP header
 pub record IsHeaded (bytes : List ℕ) : Type 0 where

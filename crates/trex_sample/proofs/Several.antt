@@ -1,15 +1,13 @@
 -- The streams of a sample break no rule that is over several streams.
-use Rattle.std.proofs.Common.{◌≡◌, ℕ, zero, suc, ◌+◌, ◌≤◌, ◌<◌, ◌||◌, Bool, true, false, nat_eq, List, [], ◌∷◌, length, map, filter, take, Option, None, Some, refl, sym, ap, ◌∙◌, arith, if◌then◌else◌}
-use Rattle.std.specs.List.{list_any, range_with_len, slice_get}
+use Rattle.std.proofs.Common.{◌≡◌, ℕ, zero, suc, ◌+◌, ◌≤◌, ◌<◌, ◌||◌, Bool, true, false, nat_eq, List, [], ◌∷◌, map, filter, take, Option, None, refl, ap, ◌∙◌, arith}
+use Rattle.std.specs.List.{list_any, range_with_len}
 use Rattle.std.proofs.lemmas.Bool.Decides.{nat_tests}
-use Rattle.trex_sched.specs.declared.mode.Mode.{Mode}
-use Rattle.trex_profile.specs.declared.refusal.Refusal.{Refusal}
 use Rattle.trex_profile.specs.Chains.{starts_from, starts}
-use Rattle.trex_profile.specs.Cross.{duplicate_refusal, lost_refusal, shared_refusal, flow_refusal, repeats_id, cross_rules}
+use Rattle.trex_profile.specs.Cross.{duplicate_refusal, lost_refusal, shared_refusal, flow_refusal, cross_rules}
 use Rattle.trex_profile.specs.Links.{ids, links, effective_next, is_endless}
-use Rattle.trex_profile.specs.Order.{first, first_each}
+use Rattle.trex_profile.specs.Order.{first_each}
 use Rattle.trex_profile.specs.Stream.{Stream}
-use Rattle.trex_profile.specs.Visits.{link_at, visits, round_of, has, comes_to, reach_of, reach_at, is_shared}
+use Rattle.trex_profile.specs.Visits.{link_at, visits, comes_to, reach_of, is_shared}
 use Rattle.trex_sample.specs.Sampled.{sampled_stream, sampled}
 
 -- no rule is broken where it is broken of none of the items

@@ -1,15 +1,10 @@
 -- A stream of the sample breaks no rule on its values.
-use Rattle.std.proofs.Common.{◌≡◌, ℕ, ◌+◌, ◌*◌, ◌/◌, ◌%◌, ◌^◌, ◌==◌, ◌≤◌, ◌<◌, ◌||◌, Bool, true, false, nat_le, nat_lt, List, [], ◌∷◌, length, get_or, Option, Some, None, refl, sym, ap, ◌∙◌, arith, if◌then◌else◌}
+use Rattle.std.proofs.Common.{◌≡◌, ℕ, ◌+◌, ◌*◌, ◌%◌, ◌^◌, ◌==◌, ◌≤◌, Bool, true, false, nat_le, nat_lt, List, length, None, refl, arith}
 use Rattle.std.proofs.lemmas.Bool.Decides.{nat_tests}
 use Rattle.trex_layers.specs.Layers.{parsed}
 use Rattle.trex_layers.specs.declared.places.Layers.{Layers}
-use Rattle.trex_sched.specs.declared.mode.Mode.{Mode}
-use Rattle.trex_sched.specs.declared.mode.Mode.TheVariants.{Continuous, SingleBurst, MultiBurst}
-use Rattle.trex_profile.specs.declared.refusal.Breach.{Breach}
 use Rattle.trex_profile.specs.InstrRules.{names_rules, length_rules, place_rules, does_rules}
-use Rattle.trex_profile.specs.Order.{first, first_each}
-use Rattle.trex_profile.specs.Packets.{variables, program}
-use Rattle.trex_profile.specs.Rules.{no_packets, length_wrong, numerator, time_rules, value_rules, steps, value_refusal}
+use Rattle.trex_profile.specs.Rules.{no_packets, length_wrong, numerator, time_rules, value_rules}
 use Rattle.trex_profile.specs.Steps.{variables_from, steps_of}
 use Rattle.trex_profile.specs.Stream.{Stream}
 use Rattle.trex_sample.specs.Template.{template}

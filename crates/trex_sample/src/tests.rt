@@ -79,7 +79,10 @@ fn a_template_has_its_lengths_and_checksums(rt: HostRuntime) -> Result<(), Fail>
             segment_sum[1],
         ];
         assert_eq!(rt; bytes.len(), 42 + usize::from(pad));
-        assert_eq!(rt; &bytes[..42], wanted.as_slice());
+        assert!(rt;
+            bytes.starts_with(&wanted),
+            "the headers in front of {pad} zeros"
+        );
     }
     Ok(())
 }

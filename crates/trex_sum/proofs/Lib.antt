@@ -1,2 +1,3 @@
 pub mod SumLaws
 pub mod Completing
+pub mod Pieces

@@ -21,6 +21,13 @@ sum_of-append [] ys even = omega arith
 sum_of-append (x ∷ []) ys even = absurd (omega arith)
 sum_of-append (x ∷ y ∷ rest) ys even = let more = sum_of-append rest ys (omega arith) in omega arith
 
+-- the sum of an odd part and the rest, whose first byte ends a word
+pub sum_of-append_odd : (xs ys : List ℕ) → length xs % 2 ≡ 1 → sum_of (xs ++ ys) ≡ sum_of xs + sum_of (0 ∷ ys)
+sum_of-append_odd [] ys odd = absurd (omega arith)
+sum_of-append_odd (x ∷ []) [] odd = omega arith
+sum_of-append_odd (x ∷ []) (y ∷ ys) odd = omega arith
+sum_of-append_odd (x ∷ y ∷ rest) ys odd = let more = sum_of-append_odd rest ys (omega arith) in omega arith
+
 -- a list cut at an even place
 pub sum_of-split : (n : ℕ) (xs : List ℕ) → n % 2 ≡ 0 → n ≤ length xs → sum_of (take n xs) + sum_of (drop n xs) ≡ sum_of xs
 sum_of-split n xs even within =

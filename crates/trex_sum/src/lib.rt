@@ -1,8 +1,10 @@
 // The Internet checksum (RFC 1071): sums, their fold, and the test that a sum verifies.
 #![tactic(auto)]
 
+mod running;
 mod sums;
 #[cfg(test)]
 mod tests;
 
+pub use running::RunningSum;
 pub use sums::{fold, sum_words, verifies};

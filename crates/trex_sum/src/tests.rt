@@ -1,4 +1,4 @@
-use crate::{fold, sum_words, verifies};
+use crate::{RunningSum, fold, sum_words, verifies};
 
 // the numerical example of RFC 1071, section 3, whose sum is 2ddf0 and whose checksum is 220d
 #[test]
@@ -26,4 +26,23 @@ fn sums_words_and_folds_them(rt: HostRuntime) {
         assert_eq!(rt; fold(found), folded, "the fold of {sum}");
         assert_eq!(rt; verifies(found), folded == 0xffff, "whether {sum} verifies");
     }
+}
+
+// the same bytes in pieces, of which some begin in the middle of a word
+#[test]
+fn sums_bytes_that_go_by_in_pieces(rt: HostRuntime) {
+    let pieces: [&[u8]; 5] = [
+        &[0x00, 0x01, 0xf2],
+        &[0x03],
+        &[],
+        &[0xf4, 0xf5, 0xf6],
+        &[0xf7],
+    ];
+    let mut sum = RunningSum::new();
+    for piece in pieces {
+        assert!(rt; piece.len() <= 3);
+        assert!(rt; sum.sum() <= 0x2ddf0);
+        sum.add(piece);
+    }
+    assert_eq!(rt; sum.sum(), 0x2ddf0);
 }

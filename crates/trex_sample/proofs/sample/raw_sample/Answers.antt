@@ -1,7 +1,6 @@
-use Rattle.std.proofs.Common.{◌≡◌, ◌+◌, ◌++◌, ◌∷◌, [], All, List, length, map, sym, ap, subst, ◌∙◌, arith, length-append}
+use Rattle.std.proofs.Common.{◌≡◌, ◌+◌, ◌++◌, ◌∷◌, [], All, length, map, sym, ap, subst, ◌∙◌, arith, length-append}
 use Rattle.std.specs.List.{range_with_len}
 use Rattle.std.proofs.lemmas.List.Elements.{All-push}
-use Rattle.trex_profile.specs.declared.raw.RawStream.{RawStream}
 use Rattle.trex_profile.specs.Stream.{raw_stream, IsRawStream}
 use Rattle.trex_sample.specs.Sampled.{sampled_stream, sampled}
 use Rattle.trex_sample.proofs.Kept.{made-more}

@@ -1,4 +1,4 @@
-use Rattle.std.proofs.Common.{◌≡◌, ℕ, ◌+◌, ◌-◌, ap, ◌∙◌, arith}
+use Rattle.std.proofs.Common.{◌≡◌, ◌+◌, ◌-◌, ap, ◌∙◌, arith}
 use Rattle.trex_sum.specs.Checksum.{sum_of}
 use Rattle.trex_sample.specs.Template.{pseudo_header, udp_with}
 use Rattle.trex_sample.proofs.Headers.{udp_sum-is}
