@@ -6,7 +6,8 @@ use trex_sched::{Mode, Period};
 
 pub(crate) const PACKET: &str = r#"{"binary":"AgAAAAACAgAAAAABiLU="}"#;
 
-pub(crate) const MODE: &str = r#"{"type":"single_burst","total_pkts":3,"rate":{"type":"pps","value":3}}"#;
+pub(crate) const MODE: &str =
+    r#"{"type":"single_burst","total_pkts":3,"rate":{"type":"pps","value":3}}"#;
 
 /// The first broken rule of a text, where it breaks one.
 pub(crate) fn refusal_of(alloc: Global, text: &[u8]) -> Result<Option<Refusal>, Fail> {
@@ -26,7 +27,12 @@ fn refused(rule: Rule, stream: Option<u32>) -> Option<Refusal> {
 }
 
 /// A profile of one stream with further names, a packet and a mode.
-pub(crate) fn text_of(alloc: Global, names: &str, packet: &str, mode: &str) -> Result<String, AllocError> {
+pub(crate) fn text_of(
+    alloc: Global,
+    names: &str,
+    packet: &str,
+    mode: &str,
+) -> Result<String, AllocError> {
     format!(in alloc;
         "[{{\"stream_id\":1,\"stream\":{{{names}\"packet\":{packet},\"mode\":{mode}}}}}]"
     )
