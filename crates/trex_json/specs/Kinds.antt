@@ -17,6 +17,9 @@ use Rattle.trex_json.specs.declared.kinds.InstrWord.{InstrWord}
 use Rattle.trex_json.specs.declared.kinds.InstrWord.TheVariants.{FlowVar, RandLimit, Tuple, Write, WriteMask, FixIpv4, FixHw, Trim}
 use Rattle.trex_json.specs.declared.kinds.ModeWord.{ModeWord}
 use Rattle.trex_json.specs.declared.kinds.ModeWord.TheVariants.{Continuous, SingleBurst, MultiBurst}
+use Rattle.trex_json.specs.declared.kinds.LayerWord.{LayerWord}
+use Rattle.trex_json.specs.declared.kinds.LayerWord.TheVariants.{Ethernet, Vlan, Ipv4, Tcp, Udp, Raw}
+use Rattle.trex_json.specs.Addresses.{mac_of, address_of}
 use Rattle.trex_json.specs.Json.{list_of}
 
 -- an object
@@ -167,3 +170,25 @@ instr_of_word word =
 
 abbrev pub instr_word : Data → Option InstrWord
 instr_word d = option_and_then instr_of_word (as_str d)
+
+-- the word of a layer
+abbrev pub layer_of_word : List ℕ → Option LayerWord
+layer_of_word word =
+    if bytes_eq word (codes "Ethernet") then Some Ethernet
+    else if bytes_eq word (codes "Vlan") then Some Vlan
+    else if bytes_eq word (codes "Ipv4") then Some Ipv4
+    else if bytes_eq word (codes "Tcp") then Some Tcp
+    else if bytes_eq word (codes "Udp") then Some Udp
+    else if bytes_eq word (codes "Raw") then Some Raw
+    else None
+
+abbrev pub layer_word : Data → Option LayerWord
+layer_word d = option_and_then layer_of_word (as_str d)
+
+-- the address of a station
+abbrev pub a_mac : Data → Option (List ℕ)
+a_mac d = option_and_then mac_of (as_str d)
+
+-- an IPv4 address
+abbrev pub an_address : Data → Option ℕ
+an_address d = option_and_then address_of (as_str d)

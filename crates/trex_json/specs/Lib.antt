@@ -1,8 +1,10 @@
 pub mod Json
+pub mod Addresses
 pub mod Kinds
 pub mod Names
 pub mod Rows
 pub mod Operands
+pub mod Layers
 pub mod Shape
 pub mod Order
 pub mod Answer

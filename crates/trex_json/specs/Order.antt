@@ -1,15 +1,21 @@
 -- The rules on the shape of one entry, one a line, in the order in which they are looked at (own).
-use Rattle.std.specs.Prelude.{◌||◌, nat_lt, List, [], ◌∷◌, length, Option, is_none}
+use Rattle.std.specs.Prelude.{◌||◌, ◌&&◌, nat_lt, if◌then◌else◌, List, [], ◌∷◌, length, Option, None, is_none}
 use Rattle.serde_json.specs.Data.{Data}
+use Rattle.trex_build.specs.Built.{too_long}
 use Rattle.trex_profile.specs.declared.refusal.Breach.{Breach}
-use Rattle.trex_profile.specs.declared.rule.Rule.TheVariants.{BadEntry, BadStreamId, BadStream, BadEnabled, BadSelfStart, BadIsg, BadNext, BadActionCount, BadSeed, BadPacket, Unbuilt, BadBinary, BadMode, BadRate, BadCount, BadIbg, BadFlowStats, BadVm, TooManyInstructions}
+use Rattle.trex_profile.specs.declared.rule.Rule.TheVariants.{BadEntry, BadStreamId, BadStream, BadEnabled, BadSelfStart, BadIsg, BadNext, BadActionCount, BadSeed, BadPacket, BadBinary, BadLayer, LayersTooLong, BadMode, BadRate, BadCount, BadIbg, BadFlowStats, BadVm, TooManyInstructions}
 use Rattle.trex_profile.specs.Order.{first_each}
 use Rattle.trex_profile.specs.Refusal.{rule}
 use Rattle.trex_json.specs.Kinds.{an_object}
+use Rattle.trex_json.specs.Layers.{has_binary, layer_rule, layers_of, order_rule}
 use Rattle.trex_json.specs.Names.{wrong, value}
 use Rattle.trex_json.specs.Operands.{instr_rules}
 use Rattle.trex_json.specs.Rows as row
-use Rattle.trex_json.specs.Shape.{packet_wrong, unbuilt, rate_wrong, count_wrong, ibg_wrong, flow_wrong, vm_wrong, items, word_of}
+use Rattle.trex_json.specs.Shape.{packet_wrong, rate_wrong, count_wrong, ibg_wrong, flow_wrong, vm_wrong, items, word_of}
+
+-- a rule on a packet without bytes
+abbrev pub by_layers : Data → Option Breach → Option Breach
+by_layers packet rule = if has_binary packet then None else rule
 
 -- the rules on an entry and on its stream
 abbrev pub rules_of : Data → Data → List (Option Breach)
@@ -24,8 +30,13 @@ rules_of entry stream =
     ∷ rule BadActionCount (wrong row.action_count stream)
     ∷ rule BadSeed (wrong row.seed stream)
     ∷ rule BadPacket (packet_wrong stream)
-    ∷ rule Unbuilt (unbuilt (value row.packet stream))
-    ∷ rule BadBinary (wrong row.binary (value row.packet stream))
+    ∷ rule BadBinary (has_binary (value row.packet stream) && wrong row.binary (value row.packet stream))
+    ∷ by_layers (value row.packet stream) (rule BadLayer (wrong row.layers (value row.packet stream)))
+    -- BadLayer, layer by layer
+    ∷ by_layers (value row.packet stream) (first_each layer_rule 0 (value row.layers (value row.packet stream)))
+    -- LayerOrder
+    ∷ by_layers (value row.packet stream) (order_rule (layers_of (value row.packet stream)))
+    ∷ by_layers (value row.packet stream) (rule LayersTooLong (too_long (layers_of (value row.packet stream))))
     ∷ rule BadMode (wrong row.mode stream || wrong row.mode_type (value row.mode stream))
     ∷ rule BadRate (rate_wrong (value row.mode stream))
     ∷ rule BadCount (count_wrong (word_of stream) (value row.mode stream))

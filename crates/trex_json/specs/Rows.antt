@@ -13,7 +13,9 @@ use Rattle.trex_json.specs.declared.kinds.InstrWord.{InstrWord}
 use Rattle.trex_json.specs.declared.kinds.InstrWord.TheVariants.{FixIpv4}
 use Rattle.trex_json.specs.declared.kinds.ModeWord.{ModeWord}
 use Rattle.trex_json.specs.declared.kinds.ModeWord.TheVariants.{Continuous}
-use Rattle.trex_json.specs.Kinds.{an_object, an_array, whole, scaled, decimal, next_id, mode_word, rate_kind, latency_word, bytes, values, a_size, a_segment, a_signed, a_shift, a_place, an_op, instr_word}
+use Rattle.trex_json.specs.declared.kinds.LayerWord.{LayerWord}
+use Rattle.trex_json.specs.declared.kinds.LayerWord.TheVariants.{Raw}
+use Rattle.trex_json.specs.Kinds.{an_object, an_array, whole, scaled, decimal, next_id, mode_word, rate_kind, latency_word, bytes, values, a_size, a_segment, a_signed, a_shift, a_place, an_op, instr_word, layer_word, a_mac, an_address}
 use Rattle.trex_json.specs.Names.{Row, optional, required}
 
 -- the names of an entry
@@ -55,9 +57,12 @@ flow_stats = optional (codes "flow_stats") an_object null
 abbrev pub vm : Row Data
 vm = optional (codes "vm") an_object null
 
--- the name of a packet that has bytes
+-- the names of a packet, of which one is there
 abbrev pub binary : Row (List ℕ)
 binary = required (codes "binary") bytes []
+
+abbrev pub layers : Row (List Data)
+layers = required (codes "layers") an_array []
 
 -- the names of a mode
 abbrev pub mode_type : Row ModeWord
@@ -183,3 +188,59 @@ l3_len = required (codes "l3_len") (whole (2 ^ 64 - 1)) 0
 
 abbrev pub l4_type : Row ℕ
 l4_type = required (codes "l4_type") a_segment 17
+
+-- the word of a layer
+abbrev pub layer_type : Row LayerWord
+layer_type = required (codes "type") layer_word Raw
+
+-- the names of layers; the payload's is `binary`, as a packet's
+abbrev pub mac_dst : Row (List ℕ)
+mac_dst = required (codes "dst") a_mac []
+
+abbrev pub mac_src : Row (List ℕ)
+mac_src = required (codes "src") a_mac []
+
+abbrev pub etype : Row ℕ
+etype = optional (codes "etype") (whole 65535) 34997
+
+abbrev pub tci : Row ℕ
+tci = required (codes "tci") (whole 65535) 0
+
+abbrev pub ip_src : Row ℕ
+ip_src = required (codes "src") an_address 0
+
+abbrev pub ip_dst : Row ℕ
+ip_dst = required (codes "dst") an_address 0
+
+abbrev pub tos : Row ℕ
+tos = optional (codes "tos") (whole 255) 0
+
+abbrev pub ip_id : Row ℕ
+ip_id = optional (codes "id") (whole 65535) 0
+
+abbrev pub frag : Row ℕ
+frag = optional (codes "frag") (whole 65535) 0
+
+abbrev pub ttl : Row ℕ
+ttl = optional (codes "ttl") (whole 255) 64
+
+abbrev pub proto : Row ℕ
+proto = optional (codes "proto") (whole 255) 253
+
+abbrev pub sport : Row ℕ
+sport = required (codes "sport") (whole 65535) 0
+
+abbrev pub dport : Row ℕ
+dport = required (codes "dport") (whole 65535) 0
+
+abbrev pub seq : Row ℕ
+seq = optional (codes "seq") (whole 4294967295) 0
+
+abbrev pub ack : Row ℕ
+ack = optional (codes "ack") (whole 4294967295) 0
+
+abbrev pub tcp_flags : Row ℕ
+tcp_flags = optional (codes "flags") (whole 255) 2
+
+abbrev pub window : Row ℕ
+window = optional (codes "window") (whole 65535) 8192

@@ -6,7 +6,7 @@ use Rattle.trex_sched.specs.declared.mode.Mode.TheVariants.{Continuous, SingleBu
 use Rattle.trex_profile.specs.declared.raw.RawRate.{RawRate}
 use Rattle.trex_profile.specs.declared.refusal.Breach.{Breach}
 use Rattle.trex_profile.specs.declared.refusal.Refusal.{Refusal}
-use Rattle.trex_profile.specs.declared.rule.Rule.TheVariants.{BadEntry, BadStreamId, BadStream, BadEnabled, BadSelfStart, BadIsg, BadNext, BadActionCount, BadSeed, BadPacket, Unbuilt, BadBinary, BadMode, BadRate, BadCount, BadIbg, BadFlowStats, BadVm, TooManyInstructions}
+use Rattle.trex_profile.specs.declared.rule.Rule.TheVariants.{BadEntry, BadStreamId, BadStream, BadEnabled, BadSelfStart, BadIsg, BadNext, BadActionCount, BadSeed, BadPacket, BadMode, BadRate, BadCount, BadIbg, BadFlowStats, BadVm, TooManyInstructions}
 use Rattle.trex_profile.specs.Instruction.{Instruction}
 use Rattle.trex_profile.specs.Order.{first, first_each}
 use Rattle.trex_profile.specs.Refusal.{rule, in_stream}
@@ -15,7 +15,8 @@ use Rattle.trex_json.specs.declared.kinds.ModeWord.{ModeWord}
 use Rattle.trex_json.specs.declared.kinds.ModeWord.TheVariants.{Continuous as ContinuousWord, SingleBurst as SingleBurstWord, MultiBurst as MultiBurstWord}
 use Rattle.trex_json.specs.declared.stream.Fields.{Fields}
 use Rattle.trex_json.specs.Kinds.{an_object}
-use Rattle.trex_json.specs.Names.{under, wrong, value}
+use Rattle.trex_json.specs.Layers.{has_binary, has_layers, template_rules, template_of}
+use Rattle.trex_json.specs.Names.{wrong, value}
 use Rattle.trex_json.specs.Operands.{instr_rules, instruction_of}
 use Rattle.trex_json.specs.Rows as row
 
@@ -41,14 +42,6 @@ fields stream = record {
   seed = value row.seed stream;
 }
 
--- a packet has bytes
-abbrev pub has_binary : Data → Bool
-has_binary packet = is_some (under (codes "binary") packet)
-
--- a packet has layers
-abbrev pub has_layers : Data → Bool
-has_layers packet = is_some (under (codes "layers") packet)
-
 -- a packet is missing or no object, or has neither bytes nor layers
 unfoldable pub packet_wrong : Data → Bool
 packet_wrong stream =
@@ -62,10 +55,6 @@ packet_wrong stream =
 -- the instructions of a stream
 abbrev pub items : Data → List Data
 items stream = value row.instructions (value row.vm stream)
-
--- a form that isn't read: layers
-unfoldable pub unbuilt : Data → Bool
-unbuilt packet = is_none (under (codes "binary") packet)
 
 -- a rate, its type or its value is wrong
 unfoldable pub rate_wrong : Data → Bool
@@ -145,8 +134,7 @@ unfoldable pub stream_rules : Data → Option Breach
 stream_rules stream = first (
     field_rules stream
     ∷ rule BadPacket (packet_wrong stream)
-    ∷ rule Unbuilt (unbuilt (value row.packet stream))
-    ∷ rule BadBinary (wrong row.binary (value row.packet stream))
+    ∷ template_rules (value row.packet stream)
     ∷ mode_rules stream
     ∷ work_rules (value row.seed stream) stream
     ∷ [])
@@ -161,7 +149,7 @@ stream_of id stream = record {
   next = value row.next stream;
   action_count = value row.action_count stream;
   seed = value row.seed stream;
-  template = value row.binary (value row.packet stream);
+  template = template_of (value row.packet stream);
   rate = rate (value row.mode stream);
   mode = counted (word_of stream) (value row.mode stream);
   flow = flow_of stream;

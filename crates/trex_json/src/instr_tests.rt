@@ -559,53 +559,81 @@ fn writes_and_fixes_keep_rules(rt: HostRuntime) -> Result<(), Fail> {
     Ok(())
 }
 
+/// Writes at names of fields, one masked, a write past 60 bytes, and a fix where no header stands.
+const AT_SOURCE: &str = r#"{"type":"write_flow_var","name":"v","pkt_offset":"IP.src"}"#;
+
+const AT_TCP_PORT: &str = r#"{"type":"write_flow_var","name":"v","pkt_offset":"TCP.sport"}"#;
+
+const AT_TAG: &str = r#"{"type":"write_flow_var","name":"v","pkt_offset":"Dot1Q.tci"}"#;
+
+const AT_VERSION: &str = r#"{"type":"write_flow_var","name":"v","pkt_offset":"IP.vihl"}"#;
+
+const MASKED_AT_SOURCE: &str =
+    r#"{"type":"write_mask_flow_var","name":"v","pkt_offset":"IP.src","pkt_cast_size":8,"mask":1}"#;
+
+const PAST: &str = r#"{"type":"write_flow_var","name":"v","pkt_offset":60}"#;
+
+const NO_HEADER: &str = r#"{"type":"fix_checksum_ipv4","pkt_offset":15}"#;
+
 #[test]
 fn a_field_comes_after_stamps_and_before_places(rt: HostRuntime) -> Result<(), Fail> {
-    let source = r#"{"type":"write_flow_var","name":"v","pkt_offset":"IP.src"}"#;
-    let port = r#"{"type":"write_flow_var","name":"v","pkt_offset":"TCP.sport"}"#;
-    let tag = r#"{"type":"write_flow_var","name":"v","pkt_offset":"Dot1Q.tci"}"#;
-    let version = r#"{"type":"write_flow_var","name":"v","pkt_offset":"IP.vihl"}"#;
-    let masked =
-        r#"{"type":"write_mask_flow_var","name":"v","pkt_offset":"IP.src","pkt_cast_size":8,"mask":1}"#;
-    let past = r#"{"type":"write_flow_var","name":"v","pkt_offset":60}"#;
-    let no_header = r#"{"type":"fix_checksum_ipv4","pkt_offset":15}"#;
     for (binary, flow, instrs, expected) in [
-        (UDP_60, None, [FOUR, source].as_slice(), None),
-        (UDP_60, None, &[FOUR, port], at(Rule::BadField, 1)),
-        (UDP_60, None, &[FOUR, tag], at(Rule::BadField, 1)),
-        (UDP_60, None, &[VARIABLE, masked], at(Rule::BadField, 1)),
-        (UDP_60, None, &[FOUR, version], at(Rule::BadField, 1)),
+        (UDP_60, None, [FOUR, AT_SOURCE].as_slice(), None),
+        (UDP_60, None, &[FOUR, AT_TCP_PORT], at(Rule::BadField, 1)),
+        (UDP_60, None, &[FOUR, AT_TAG], at(Rule::BadField, 1)),
         (
             UDP_60,
             None,
-            &[VARIABLE, version, FIX],
+            &[VARIABLE, MASKED_AT_SOURCE],
+            at(Rule::BadField, 1),
+        ),
+        (UDP_60, None, &[FOUR, AT_VERSION], at(Rule::BadField, 1)),
+        (
+            UDP_60,
+            None,
+            &[VARIABLE, AT_VERSION, FIX],
             at(Rule::WriteOnShape, 1),
         ),
-        (UDP_60, None, &[port, source], at(Rule::UnknownVariable, 0)),
         (
             UDP_60,
             None,
-            &[FINE, TRIM, TRIM, FOUR, port],
+            &[AT_TCP_PORT, AT_SOURCE],
+            at(Rule::UnknownVariable, 0),
+        ),
+        (
+            UDP_60,
+            None,
+            &[FINE, TRIM, TRIM, FOUR, AT_TCP_PORT],
             at(Rule::TwoTrims, 2),
         ),
         (
             UDP_60,
             None,
-            &[LENGTH, TRIM, FOUR, port],
+            &[LENGTH, TRIM, FOUR, AT_TCP_PORT],
             at(Rule::TrimRange, 1),
         ),
-        (LONG_29, Some(3), &[FOUR, port], whole(Rule::NoRoomForStamp)),
-        (UDP_60, None, &[FOUR, past, port], at(Rule::BadField, 2)),
+        (
+            LONG_29,
+            Some(3),
+            &[FOUR, AT_TCP_PORT],
+            whole(Rule::NoRoomForStamp),
+        ),
         (
             UDP_60,
             None,
-            &[FOUR, no_header, port],
+            &[FOUR, PAST, AT_TCP_PORT],
             at(Rule::BadField, 2),
         ),
         (
             UDP_60,
             None,
-            &[FINE, TRIM, FOUR, source],
+            &[FOUR, NO_HEADER, AT_TCP_PORT],
+            at(Rule::BadField, 2),
+        ),
+        (
+            UDP_60,
+            None,
+            &[FINE, TRIM, FOUR, AT_SOURCE],
             at(Rule::WriteRoom, 3),
         ),
     ] {

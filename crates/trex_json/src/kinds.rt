@@ -3,8 +3,9 @@ ghost use Rattle.std.specs.Option.{ForSome};
 ghost use Rattle.serde_json.specs.View.{view};
 ghost use Rattle.trex_fields.specs.Bytes.{IsSize};
 ghost use Rattle.serde_json.specs.Find.{as_bool};
-ghost use Rattle.trex_json.specs.Kinds.{an_object, an_array, at_most, whole, scaled, decimal, id_of, next_id, mode_of_word, mode_word, rate_of_word, rate_kind, latency_word, a_size, a_segment, a_signed, shift_of, a_shift, an_op, instr_word};
+ghost use Rattle.trex_json.specs.Kinds.{an_object, an_array, at_most, whole, scaled, decimal, id_of, next_id, mode_of_word, mode_word, rate_of_word, rate_kind, latency_word, a_size, a_segment, a_signed, shift_of, a_shift, an_op, instr_word, layer_word, a_mac, an_address};
 
+use crate::addresses::{address_of, mac_of};
 use serde_json::Value;
 use trex_profile::RateKind;
 use trex_vars::Op;
@@ -28,6 +29,17 @@ pub(crate) enum InstrWord {
     FixIpv4,
     FixHw,
     Trim,
+}
+
+/// The word of a layer.
+#[derive(Clone, Copy, Debug, PartialEq, Eq)]
+pub(crate) enum LayerWord {
+    Ethernet,
+    Vlan,
+    Ipv4,
+    Tcp,
+    Udp,
+    Raw,
 }
 
 /// The value, where it is an object.
@@ -216,4 +228,33 @@ pub(crate) fn instr_word(value: &Value) -> Option<InstrWord>
         "trim_pkt_size" => Some(InstrWord::Trim),
         _ => None,
     }
+}
+
+/// The word of a layer.
+pub(crate) fn layer_word(value: &Value) -> Option<LayerWord>
+    ensures { result ≡ layer_word (view value.now) }
+{
+    match value.as_str()? {
+        "Ethernet" => Some(LayerWord::Ethernet),
+        "Vlan" => Some(LayerWord::Vlan),
+        "Ipv4" => Some(LayerWord::Ipv4),
+        "Tcp" => Some(LayerWord::Tcp),
+        "Udp" => Some(LayerWord::Udp),
+        "Raw" => Some(LayerWord::Raw),
+        _ => None,
+    }
+}
+
+/// The address of a station.
+pub(crate) fn a_mac(value: &Value) -> Option<[u8; 6]>
+    ensures { result ≡ a_mac (view value.now) }
+{
+    mac_of(value.as_str()?)
+}
+
+/// An IPv4 address.
+pub(crate) fn an_address(value: &Value) -> Option<u32>
+    ensures { result ≡ an_address (view value.now) }
+{
+    address_of(value.as_str()?)
 }

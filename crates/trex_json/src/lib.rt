@@ -1,11 +1,13 @@
 // Profiles as JSON texts: their names, their kinds and defaults, and the rules of refusal on documents and shapes.
 #![tactic(auto)]
 
+mod addresses;
 mod binary;
 mod entry;
 mod fault;
 mod instr;
 mod kinds;
+mod layers;
 mod mode;
 mod names;
 mod order;
@@ -18,5 +20,9 @@ pub use reading::{LONGEST_TEXT, read_profile};
 
 #[cfg(test)]
 mod instr_tests;
+#[cfg(test)]
+mod layer_tests;
+#[cfg(test)]
+mod rule_tests;
 #[cfg(test)]
 mod tests;

@@ -3,10 +3,10 @@ ghost use Rattle.std.specs.Option.{ForSome};
 ghost use Rattle.serde_json.specs.View.{view};
 ghost use Rattle.serde_json.specs.Find.{as_bool, as_str};
 ghost use Rattle.trex_fields.specs.Bytes.{IsSize};
-ghost use Rattle.trex_json.specs.Kinds.{an_object, an_array, whole, scaled, decimal, next_id, mode_word, rate_kind, latency_word, a_size, a_segment, a_signed, a_shift, an_op, instr_word};
+ghost use Rattle.trex_json.specs.Kinds.{an_object, an_array, whole, scaled, decimal, next_id, mode_word, rate_kind, latency_word, a_size, a_segment, a_signed, a_shift, an_op, instr_word, layer_word, a_mac, an_address};
 ghost use Rattle.trex_json.specs.Names.{under, asked};
 
-use crate::kinds::{self, InstrWord, ModeWord};
+use crate::kinds::{self, InstrWord, LayerWord, ModeWord};
 use serde_json::Value;
 use trex_profile::RateKind;
 use trex_vars::Op;
@@ -162,4 +162,32 @@ pub(crate) fn instr_told(object: &Value, name: &str) -> Option<InstrWord>
     ensures { result ≡ asked name.now instr_word None (view object.now) }
 {
     kinds::instr_word(under(object, name)?)
+}
+
+/// The word of a layer under a name.
+pub(crate) fn layer_told(object: &Value, name: &str) -> Option<LayerWord>
+    ensures { result ≡ asked name.now layer_word None (view object.now) }
+{
+    kinds::layer_word(under(object, name)?)
+}
+
+/// The address of a station under a name.
+pub(crate) fn mac_told(object: &Value, name: &str) -> Option<[u8; 6]>
+    ensures { result ≡ asked name.now a_mac None (view object.now) }
+{
+    kinds::a_mac(under(object, name)?)
+}
+
+/// The IPv4 address under a name.
+pub(crate) fn address_told(object: &Value, name: &str) -> Option<u32>
+    ensures { result ≡ asked name.now an_address None (view object.now) }
+{
+    kinds::an_address(under(object, name)?)
+}
+
+/// The array under a name.
+pub(crate) fn array_told<'v>(object: &'v Value, name: &str) -> Option<&'v [Value]>
+    ensures { option_map (λ items. map view items.now) result ≡ asked name.now an_array None (view object.now) }
+{
+    kinds::an_array(under(object, name)?)
 }

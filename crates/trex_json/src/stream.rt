@@ -7,11 +7,11 @@ ghost use Rattle.trex_profile.specs.Stream.{raw_stream, IsRawStream};
 ghost use Rattle.trex_profile.specs.Answer.{Gives};
 ghost use Rattle.trex_json.specs.Names.{value};
 ghost use Rattle.trex_json.specs.Rows as row;
-ghost use Rattle.trex_json.specs.Shape.{field_rules, fields, packet_wrong, items, unbuilt, flow_wrong, flow_of, vm_wrong, instrs_of, work_rules, stream_rules, stream_of};
+ghost use Rattle.trex_json.specs.Shape.{field_rules, fields, packet_wrong, items, flow_wrong, flow_of, vm_wrong, instrs_of, work_rules, stream_rules, stream_of};
 
-use crate::binary::bytes_told;
 use crate::instr::each_instr;
 use crate::kinds::{an_array, an_object};
+use crate::layers::template_of;
 use crate::mode::mode_of;
 use crate::names::{bool_told, gap_told, latency_told, next_told, object_told, under, whole_told};
 use serde_json::Value;
@@ -95,14 +95,6 @@ fn items_of(stream: &Value) -> Option<&[Value]>
     }
 }
 
-/// Whether a packet has a form that isn't read.
-#[tactic(auto, unfolding(crate::specs::Shape::unbuilt))]
-fn is_unbuilt(packet: &Value) -> bool
-    ensures { result ≡ unbuilt (view packet.now) }
-{
-    under(packet, "binary").is_none()
-}
-
 /// The flow number of a stream, where its flow is of its kind: none where it has no flow.
 #[tactic(auto, unfolding(crate::specs::Shape::flow_wrong))]
 fn flow_of(stream: &Value) -> Option<Option<u16>>
@@ -153,12 +145,7 @@ pub(crate) fn stream_of(alloc: Global, id: u32, stream: &Value) -> Result<RawStr
 {
     let fields = fields_of(stream)?;
     let packet = packet_of(stream).ok_or(StreamFault::of_stream(Rule::BadPacket))?;
-    if is_unbuilt(packet) {
-        return Err(StreamFault::of_stream(Rule::Unbuilt));
-    }
-    let template = bytes_told(alloc, packet, "binary")?.ok_or(StreamFault::of_stream(
-        Rule::BadBinary,
-    ))?;
+    let template = template_of(alloc, packet)?;
     let (rate, mode) = mode_of(stream)?;
     let work = work_of(alloc, fields.seed, stream)?;
     Ok(RawStream {

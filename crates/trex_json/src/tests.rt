@@ -4,12 +4,13 @@ use std::test::Fail;
 use trex_profile::{Profile, Refusal, Rule};
 use trex_sched::{Mode, Period};
 
-const PACKET: &str = r#"{"binary":"AgAAAAACAgAAAAABiLU="}"#;
+pub(crate) const PACKET: &str = r#"{"binary":"AgAAAAACAgAAAAABiLU="}"#;
 
-const MODE: &str = r#"{"type":"single_burst","total_pkts":3,"rate":{"type":"pps","value":3}}"#;
+pub(crate) const MODE: &str =
+    r#"{"type":"single_burst","total_pkts":3,"rate":{"type":"pps","value":3}}"#;
 
 /// The first broken rule of a text, where it breaks one.
-fn refusal_of(alloc: Global, text: &[u8]) -> Result<Option<Refusal>, Fail> {
+pub(crate) fn refusal_of(alloc: Global, text: &[u8]) -> Result<Option<Refusal>, Fail> {
     match read_profile(alloc, text) {
         Ok(_) => Ok(None),
         Err(ProfileFault::Refused(refusal)) => Ok(Some(refusal)),
@@ -26,7 +27,12 @@ fn refused(rule: Rule, stream: Option<u32>) -> Option<Refusal> {
 }
 
 /// A profile of one stream with further names, a packet and a mode.
-fn text_of(alloc: Global, names: &str, packet: &str, mode: &str) -> Result<String, AllocError> {
+pub(crate) fn text_of(
+    alloc: Global,
+    names: &str,
+    packet: &str,
+    mode: &str,
+) -> Result<String, AllocError> {
     format!(in alloc;
         "[{{\"stream_id\":1,\"stream\":{{{names}\"packet\":{packet},\"mode\":{mode}}}}}]"
     )
@@ -210,7 +216,7 @@ fn packets_and_modes_are_of_their_kinds(rt: HostRuntime) -> Result<(), Fail> {
         ("null", "1", Some(Rule::BadPacket)),
         ("{}", MODE, Some(Rule::BadPacket)),
         (r#"{"binary":null}"#, MODE, Some(Rule::BadPacket)),
-        (r#"{"layers":[]}"#, "1", Some(Rule::Unbuilt)),
+        (r#"{"layers":[]}"#, "1", Some(Rule::LayerOrder)),
         (
             r#"{"binary":"AgAAAAACAgAAAAABiLU"}"#,
             "1",

@@ -29,8 +29,6 @@ pub enum Rule {
     BadSeed,
     /// `packet` is missing or no object, or has neither `binary` nor `layers`.
     BadPacket,
-    /// The form isn't read.
-    Unbuilt,
     /// The packet's `binary` isn't of its kind.
     BadBinary,
     /// `layers` is no array, or a layer isn't an object of its table.
