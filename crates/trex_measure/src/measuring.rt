@@ -1,0 +1,54 @@
+ghost use Rattle.std.specs.Prelude.{◌≡◌, vec_len, OnOk, IfOk, IfErr, IsErrOf};
+ghost use Rattle.std.specs.Io.KnownBytes.{IsAtEnd};
+ghost use Rattle.trex_io.specs.Faults.{Rises};
+ghost use Rattle.trex_stats.specs.Counts.{StandsFor};
+ghost use Rattle.trex_measure.specs.Measured.{OnCapture, IfCapture, IsSound, AnswersFor};
+
+use crate::fault::{MeasureFault, measure_fault};
+use std::alloc::Global;
+use trex_io::{Memory, Source};
+use trex_pcap::CaptureReader;
+use trex_stats::Stats;
+
+/// The most captured bytes of a record.
+const LONGEST_RECORD: usize = 262_144;
+
+/// A buffer for the captured bytes of a record.
+fn record_buffer(alloc: Global) -> Result<Vec<u8>, Memory>
+    ensures { IfOk result (λ buffer. vec_len buffer ≡ LONGEST_RECORD) }
+{
+    let mut buffer = Vec::new(alloc);
+    buffer.resize(LONGEST_RECORD, 0)?;
+    Ok(buffer)
+}
+
+/// Reads a capture (pcap 2.4) to its end and counts its records. `Read` comes only where the source failed, and `Bad` exactly where the
+/// capture has that fault, but for `Read` and `Memory`.
+pub fn measure<S: Source>(alloc: Global, input: &mut S) -> Result<Stats, MeasureFault>
+    ensures counts { IfOk result (λ c. OnCapture (S.left input.old) (StandsFor c)) }
+    ensures end { OnOk result (IsAtEnd (S.left input.new)) }
+    ensures sound { IfErr result (IsSound (S.left input.old)) }
+    ensures read { IsErrOf result MeasureFault.Read → Rises S.faults input.old input.new }
+    ensures exact { IfCapture (S.left input.old) (AnswersFor result) }
+{
+    let Ok(mut buffer) = record_buffer(alloc) else {
+        return Err(MeasureFault::Memory);
+    };
+    let mut reader = match CaptureReader::start(input) {
+        Ok(reader) => reader,
+        Err(fault) => return Err(measure_fault(fault)),
+    };
+    let mut stats = Stats::new(alloc);
+    'records: loop {
+        match reader.next(input, &mut buffer) {
+            Ok(Some(record)) => {
+                let bytes = &buffer[..record.captured as usize];
+                let Ok(()) = stats.add(record.time, bytes, record.original) else {
+                    return Err(MeasureFault::Memory);
+                };
+            }
+            Ok(None) => return Ok(stats),
+            Err(fault) => return Err(measure_fault(fault)),
+        }
+    }
+}

@@ -1,0 +1,56 @@
+ghost use Rattle.std.specs.Prelude.{◌≤◌};
+
+use super::*;
+use std::alloc::Global;
+use std::test::Fail;
+use trex_io::MemSource;
+use trex_pcap::{CaptureFault, header, record_header};
+use trex_stats::{Stats, Totals};
+
+/// The measuring of the first bytes of a capture of two packets, so many a call; this call fails.
+fn measured(
+    alloc: Global,
+    length: usize,
+    per_call: usize,
+    failing: u64,
+) -> Result<Result<Stats, MeasureFault>, Fail>
+    requires { 1 ≤ per_call }
+{
+    let mut bytes = Vec::from_slice(alloc, &header())?;
+    bytes.extend_from_slice(&record_header(7, 3))?;
+    bytes.extend_from_slice(b"abc")?;
+    bytes.extend_from_slice(&record_header(9, 0))?;
+    bytes.truncate(length);
+    let failing = Vec::from_slice(alloc, &[failing])?;
+    let mut input = MemSource::new(bytes, per_call, failing);
+    Ok(measure(alloc, &mut input))
+}
+
+#[test]
+fn a_capture_is_measured_however_it_comes(rt: HostRuntime) -> Result<(), Fail> {
+    for per_call in [1, 3, 1000] {
+        let Ok(stats) = measured(rt.alloc(), 59, per_call, 0)? else {
+            return Err("no counts".into());
+        };
+        let totals = Totals {
+            records: 2,
+            bytes: 3,
+            stamped: 0,
+        };
+        assert_eq!(rt; stats.totals(), totals);
+        for (length, number) in [(0, 0), (23, 0), (25, 1), (42, 1), (58, 2)] {
+            let torn = MeasureFault::Bad(CaptureFault::Torn { number });
+            assert_eq!(rt;
+                measured(rt.alloc(), length, per_call, 0)?.err(),
+                Some(torn)
+            );
+        }
+    }
+    for failing in 1..6 {
+        assert_eq!(rt;
+            measured(rt.alloc(), 59, 1000, failing)?.err(),
+            Some(MeasureFault::Read)
+        );
+    }
+    Ok(())
+}
