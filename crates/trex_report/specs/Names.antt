@@ -1,7 +1,7 @@
 -- Names, as they are printed. Own.
 use Rattle.std.specs.Prelude.{ℕ, List, codes}
 use Rattle.trex_profile.specs.declared.rule.Rule.{Rule}
-use Rattle.trex_profile.specs.declared.rule.Rule.TheVariants.{TooLong, NotJson, NotArray, TooManyStreams, BadEntry, BadStreamId, BadStream, BadEnabled, BadSelfStart, BadIsg, BadNext, BadActionCount, BadSeed, BadPacket, Unbuilt, BadBinary, BadLayer, LayerOrder, LayersTooLong, BadMode, BadRate, BadCount, BadIbg, BadFlowStats, BadVm, TooManyInstructions, BadInstruction, BadOperand, BadLength, RateZero, RateTooHigh, CountZero, VarName, VarRange, UnknownVariable, TwoTrims, TrimRange, NoRoomForStamp, BadField, WriteRoom, BadFix, WriteOnShape, DuplicateId, NoSuchStream, SharedStream, DuplicateFlow}
+use Rattle.trex_profile.specs.declared.rule.Rule.TheVariants.{TooLong, NotJson, NotArray, TooManyStreams, BadEntry, BadStreamId, BadStream, BadEnabled, BadSelfStart, BadIsg, BadNext, BadActionCount, BadSeed, BadPacket, BadBinary, BadLayer, LayerOrder, LayersTooLong, BadMode, BadRate, BadCount, BadIbg, BadFlowStats, BadVm, TooManyInstructions, BadInstruction, BadOperand, BadLength, RateZero, RateTooHigh, CountZero, VarName, VarRange, UnknownVariable, TwoTrims, TrimRange, NoRoomForStamp, BadField, WriteRoom, BadFix, WriteOnShape, DuplicateId, NoSuchStream, SharedStream, DuplicateFlow}
 use Rattle.trex_pcap.specs.declared.fault.CaptureFault.{CaptureFault}
 use Rattle.trex_pcap.specs.declared.fault.CaptureFault.TheVariants.{Torn, BadMagic, BadVersion, BadLink, TooMany, BadFraction, BadLength as TooManyBytes, Fault}
 use Rattle.trex_words.specs.declared.asked.OptionName.{OptionName}
@@ -23,7 +23,6 @@ rule_name BadNext = codes "BadNext"
 rule_name BadActionCount = codes "BadActionCount"
 rule_name BadSeed = codes "BadSeed"
 rule_name BadPacket = codes "BadPacket"
-rule_name Unbuilt = codes "Unbuilt"
 rule_name BadBinary = codes "BadBinary"
 rule_name BadLayer = codes "BadLayer"
 rule_name LayerOrder = codes "LayerOrder"

@@ -24,7 +24,6 @@ pub(crate) fn rule_name(rule: Rule) -> &'static str
         Rule::BadActionCount => "BadActionCount",
         Rule::BadSeed => "BadSeed",
         Rule::BadPacket => "BadPacket",
-        Rule::Unbuilt => "Unbuilt",
         Rule::BadBinary => "BadBinary",
         Rule::BadLayer => "BadLayer",
         Rule::LayerOrder => "LayerOrder",
