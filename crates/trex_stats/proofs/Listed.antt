@@ -128,7 +128,7 @@ has_listed : (fs : List ℕ) (q : ℕ) → has (filter (has fs) (range_with_len 
 has_listed fs q =
     has-filter (has fs) (range_with_len 0 (greatest_of fs + 1)) q
     ∙ and_same (has (range_with_len 0 (greatest_of fs + 1)) q) (has fs q)
-      (λ there. let most = greatest_bounds fs q there in has_inside (greatest_of fs + 1) 0 q (omega arith) (omega arith))
+    (λ there. let most = greatest_bounds fs q there in has_inside (greatest_of fs + 1) 0 q (omega arith) (omega arith))
 
 rises_listed : (fs : List ℕ) → Rises 0 (filter (has fs) (range_with_len 0 (greatest_of fs + 1)))
 rises_listed fs =
@@ -167,7 +167,7 @@ flows_same keys rs sorted present =
     let fs = flow_numbers rs in
     same_rising 0 keys (flows_of rs) (rises_from 0 keys (from_zero keys) sorted) (rises_listed fs)
     (λ q.
-      both_ways (has keys q) (has fs q)
-      (λ there. has-numbers rs q ∙ lt-ltb 0 (length (arrivals rs q)) ((present q).0 there))
-      (λ there. (present q).1 (some_there (length (arrivals rs q)) (sym (has-numbers rs q) ∙ there)))
-      ∙ sym (has_listed fs q))
+    both_ways (has keys q) (has fs q)
+    (λ there. has-numbers rs q ∙ lt-ltb 0 (length (arrivals rs q)) ((present q).0 there))
+    (λ there. (present q).1 (some_there (length (arrivals rs q)) (sym (has-numbers rs q) ∙ there)))
+    ∙ sym (has_listed fs q))
