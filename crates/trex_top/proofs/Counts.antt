@@ -10,7 +10,7 @@ use Rattle.trex_merge.specs.Frames.{Frame}
 use Rattle.trex_profile.specs.Stream.{Stream}
 use Rattle.trex_profile.specs.Spec.{IsSpecOf}
 use Rattle.trex_profile.specs.declared.member.StreamSpec.{StreamSpec}
-use Rattle.trex_top.specs.declared.texts.Tally.{Tally}
+use Rattle.trex_report.specs.declared.report.Tally.{Tally}
 use Rattle.trex_top.specs.Capture.{sent_of, tally_at, tallies_from, tallies}
 use Rattle.trex_top.specs.Counting.{one_more, counted, AreOf}
 

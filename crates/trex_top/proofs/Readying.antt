@@ -23,7 +23,7 @@ use Rattle.trex_merge.specs.Queues.{Queue, all_waiting, is_needy, is_none_left, 
 use Rattle.trex_merge.proofs.Laws.{all_at, all_from, ordered_kept, same-ordered}
 use Rattle.trex_merge.proofs.Lists.{all-append_left, all-append_right}
 use Rattle.trex_profile.specs.Stream.{Stream}
-use Rattle.trex_top.specs.declared.texts.Tally.{Tally}
+use Rattle.trex_report.specs.declared.report.Tally.{Tally}
 use Rattle.trex_top.specs.Capture.{sequence as run_sequence, tallies}
 use Rattle.trex_words.specs.declared.asked.RunAsk.{RunAsk}
 use Rattle.std.proofs.Math.Seq.{take-length}

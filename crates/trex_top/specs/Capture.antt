@@ -5,8 +5,8 @@ use Rattle.trex_merge.specs.Frames.{Frame}
 use Rattle.trex_profile.specs.Stream.{Stream}
 use Rattle.trex_pcap.specs.Writing.{Packet, capture_of}
 use Rattle.trex_words.specs.declared.asked.RunAsk.{RunAsk}
-use Rattle.trex_top.specs.declared.texts.Tally.{Tally}
-use Rattle.trex_top.specs.Texts.{report_text}
+use Rattle.trex_report.specs.declared.report.Tally.{Tally}
+use Rattle.trex_report.specs.Texts.{report_text}
 
 -- The packets of a run: those that stand below the duration, by time, then by stream, then by number; of these the first, as many as
 -- the limit allows. Own.

@@ -2,7 +2,7 @@
 use Rattle.std.specs.Prelude.{ℕ, ◌+◌, ◌*◌, ◌≤◌, List, slice_get, slice_set}
 use Rattle.std.specs.List.{AllByRecursion}
 use Rattle.std.specs.Option.{option_map_or}
-use Rattle.trex_top.specs.declared.texts.Tally.{Tally}
+use Rattle.trex_report.specs.declared.report.Tally.{Tally}
 
 -- a tally with one packet of so many bytes more
 abbrev pub one_more : ℕ → Tally → Tally

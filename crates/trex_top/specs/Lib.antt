@@ -1,5 +1,3 @@
-pub mod Names
-pub mod Texts
 pub mod Capture
 pub mod Counting
 pub mod Pieces
@@ -8,3 +6,4 @@ pub mod Making
 pub mod Steps
 pub mod Ready
 pub mod Clean
+pub mod Analysis

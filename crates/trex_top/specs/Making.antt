@@ -8,11 +8,11 @@ use Rattle.trex_top.specs.declared.input.ReadingStop.TheVariants.{Refused as Ref
 use Rattle.trex_top.specs.declared.run.Unwritten.{Unwritten}
 use Rattle.trex_top.specs.declared.run.Unwritten.TheVariants.{OutFault as UnwrittenText, Memory as NoRoomForPieces}
 use Rattle.trex_top.specs.declared.stop.Stop.{Stop}
-use Rattle.trex_top.specs.declared.stop.Stop.TheVariants.{Refused, ReadFault, OutFault, Memory}
+use Rattle.trex_top.specs.declared.stop.Stop.TheVariants.{Refused, BadCapture, ReadFault, OutFault, Memory}
 use Rattle.trex_top.specs.declared.command.Status.{Status}
 use Rattle.trex_top.specs.declared.command.Status.TheVariants as status
-use Rattle.trex_top.specs.declared.texts.Line.{Line}
-use Rattle.trex_top.specs.declared.texts.Line.TheVariants as line
+use Rattle.trex_report.specs.declared.line.Line.{Line}
+use Rattle.trex_report.specs.declared.line.Line.TheVariants as line
 use Rattle.trex_top.specs.Clauses.{HasVerdict, OnProfile}
 
 -- why the reading of a profile stopped: it is refused, or the count of faults rose
@@ -26,9 +26,10 @@ abbrev pub Unmade : {O : Type 0} → (O → Option (List ℕ)) → (O → ℕ) �
 Unmade held faults text out out' UnwrittenText = WrotePart held out out' text × Rises faults out out'
 Unmade held faults text out out' NoRoomForPieces = out' ≡ out
 
--- What a stop shows: the refusal, a fault's cause, and what the output got of the profile's text.
+-- What a stop of a run or a check shows: the refusal, a fault's cause, and what the output got of the profile's text.
 abbrev pub Stops : {S O : Type 0} → (S → Option (List ℕ)) → (S → ℕ) → (O → Option (List ℕ)) → (O → ℕ) → (List Stream → List ℕ) → S → S → O → O → Stop → Type 0
 Stops left read_faults held write_faults text input input' out out' (Refused r) = HasVerdict (left input) (Err r) × (out' ≡ out)
+Stops left read_faults held write_faults text input input' out out' (BadCapture e) = ⊥
 Stops left read_faults held write_faults text input input' out out' ReadFault = Rises read_faults input input' × (out' ≡ out)
 Stops left read_faults held write_faults text input input' out out' OutFault =
     OnProfile (left input) (λ p. WrotePart held out out' (text p)) × Rises write_faults out out'
@@ -37,6 +38,7 @@ Stops left read_faults held write_faults text input input' out out' Memory = out
 -- the status of a stop
 abbrev pub stop_status : Stop → Status
 stop_status (Refused r) = status.Refused
+stop_status (BadCapture e) = status.BadCapture
 stop_status ReadFault = status.ReadFault
 stop_status OutFault = status.OutFault
 stop_status Memory = status.Memory
@@ -44,6 +46,7 @@ stop_status Memory = status.Memory
 -- the line of a stop
 abbrev pub stop_line : Stop → Line
 stop_line (Refused r) = line.Refused r
+stop_line (BadCapture e) = line.BadCapture e
 stop_line ReadFault = line.ReadFault
 stop_line OutFault = line.WriteFault
 stop_line Memory = line.OutOfMemory

@@ -10,7 +10,7 @@ use Rattle.trex_merge.specs.Frames.{Frame, key_of, sequence, share}
 use Rattle.trex_merge.specs.Machine.{IsMill, MillState}
 use Rattle.trex_merge.specs.Order.{ordered}
 use Rattle.trex_merge.specs.Queues.{Queue, next_of, waiting_at}
-use Rattle.trex_top.specs.declared.texts.Tally.{Tally}
+use Rattle.trex_report.specs.declared.report.Tally.{Tally}
 use Rattle.trex_top.specs.Counting.{counted}
 use Rattle.trex_top.specs.Steps.{state_of, seen}
 

@@ -3,13 +3,13 @@ ghost use Rattle.std.specs.Io.KnownBytes.{IsAtEnd};
 ghost use Rattle.trex_io.specs.Texts.{Wrote};
 ghost use Rattle.trex_top.specs.Clauses.{OnProfile};
 ghost use Rattle.trex_top.specs.Making.{Stops};
-ghost use Rattle.trex_top.specs.Texts.{accepted_line};
+ghost use Rattle.trex_report.specs.Texts.{accepted_line};
 
 use crate::input::{ReadingStop, read_input};
 use crate::stop::Stop;
-use crate::texts::write_accepted;
 use std::alloc::Global;
 use trex_io::{Sink, Source};
+use trex_report::{Line, write_line};
 
 /// Reads a profile, and writes that it keeps all rules.
 pub(crate) fn check<S: Source, O: Sink>(
@@ -29,7 +29,12 @@ pub(crate) fn check<S: Source, O: Sink>(
         Err(ReadingStop::ReadFault) => return Err(Stop::ReadFault),
         Err(ReadingStop::Memory) => return Err(Stop::Memory),
     };
-    match write_accepted(out, profile.len()) {
+    match write_line(
+        out,
+        Line::Accepted {
+            streams: profile.len() as u64,
+        },
+    ) {
         Ok(()) => Ok(()),
         Err(_) => Err(Stop::OutFault),
     }

@@ -14,11 +14,11 @@ ghost use Rattle.trex_top.specs.Ready.{CountsNext, IsReady, coming, queues_of};
 ghost use Rattle.trex_top.specs.Steps.{state_of, stepped};
 
 use crate::steps::{emit, steps_are_events, supply};
-use crate::texts::Tally;
 use std::thread::Threads;
 use trex_core::{CoreWork, Plan};
 use trex_crew::{Crew, Gate};
 use trex_merge::{Feed, Head, Mill, Next};
+use trex_report::Tally;
 
 /// Sends the packet that comes next, where there is one, and then makes a round where it is needed. Tells what comes then.
 fn go_on<R: Threads + Sync, G: Gate>(

@@ -16,7 +16,6 @@ ghost use Rattle.trex_top.specs.Steps.{is_packet, seen, stepped};
 
 use crate::go_on::{advance, head_of};
 use crate::pieces::PIECE;
-use crate::texts::Tally;
 use crate::writing::write_text;
 use std::alloc::Global;
 use std::marker::Model;
@@ -26,6 +25,7 @@ use trex_crew::{Crew, Gate};
 use trex_io::{Failed, Memory, Sink};
 use trex_merge::{Head, Mill, Next};
 use trex_profile::Profile;
+use trex_report::Tally;
 use trex_words::RunAsk;
 
 /// How far a run has come: its cores' works, the merge of their packets, and what was counted of each stream. Contracts see it as its plan

@@ -9,7 +9,6 @@ ghost use Rattle.trex_top.specs.Making.{Stops, Unmade};
 use crate::input::{ReadingStop, read_input};
 use crate::ready::prepare;
 use crate::stop::Stop;
-use crate::texts::Tally;
 use crate::writing::generate;
 use std::alloc::Global;
 use std::thread::Threads;
@@ -17,6 +16,7 @@ use trex_core::Plan;
 use trex_crew::Gate;
 use trex_io::{Sink, Source};
 use trex_profile::Profile;
+use trex_report::Tally;
 use trex_words::RunAsk;
 
 /// Why a capture wasn't written whole.

@@ -1,6 +1,6 @@
 use Rattle.std.proofs.Common.{◌≡◌, ◌≤◌, ◌++◌, ◌∷◌, [], length, sym, ap, ◌∙◌, arith}
 use Rattle.std.proofs.lemmas.List.{take_all}
-use Rattle.trex_top.specs.declared.texts.Tally.{Tally}
+use Rattle.trex_report.specs.declared.report.Tally.{Tally}
 use Rattle.trex_top.specs.Capture.{tallies}
 use Rattle.trex_top.proofs.Schedule.{take-next}
 use Rattle.trex_top.proofs.Counts.{id-of, tallies-at, length-tallies}

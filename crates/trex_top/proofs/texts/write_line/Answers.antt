@@ -1,4 +1,0 @@
-use Rattle.trex_top.proofs.texts.write_line.Goals as goal
-
-pub returns-in-ReadFault : goal.returns-in-ReadFault
-returns-in-ReadFault g c = rw c.in-ReadFault.is c.write_all.ensures
