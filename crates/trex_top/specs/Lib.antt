@@ -8,3 +8,4 @@ pub mod Making
 pub mod Steps
 pub mod Ready
 pub mod Clean
+pub mod Sample

@@ -5,6 +5,7 @@ use Rattle.std.specs.Str.{bytes_eq, all_ascii_digits}
 use Rattle.std.specs.Str.Parse.{digits_value}
 use Rattle.trex_words.specs.First.{first_of}
 use Rattle.trex_words.specs.declared.asked.RunAsk.{RunAsk}
+use Rattle.trex_words.specs.declared.asked.SampleAsk.{SampleAsk}
 use Rattle.trex_words.specs.declared.asked.Asked.{Asked}
 use Rattle.trex_words.specs.declared.asked.Asked.TheVariants.{Run, Check}
 use Rattle.trex_words.specs.declared.options.Limits.{Limits}
@@ -112,6 +113,11 @@ pub record IsRunAsk (ask : RunAsk) : Type 0 where
   pub limit : ask.limit ≤ 100000000
   pub base : ask.base ≤ 3000000000
   pub cores : (1 ≤ ask.cores) × (ask.cores ≤ 64)
+
+-- the ranges of a sample
+pub record IsSampleAsk (ask : SampleAsk) : Type 0 where
+  pub streams : (1 ≤ ask.streams) × (ask.streams ≤ 256)
+  pub run : IsRunAsk ask.run
 
 -- the ranges of a request
 abbrev pub IsAsked : Asked → Type 0

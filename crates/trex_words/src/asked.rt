@@ -20,6 +20,17 @@ pub struct RunAsk {
     pub base: u32,
 }
 
+/// The options of a sample.
+#[derive(Clone, Copy, Debug, PartialEq, Eq)]
+pub struct SampleAsk {
+    /// The number that determines the profile.
+    pub seed: u64,
+    /// How many streams the profile has.
+    pub streams: u32,
+    /// What is run of it; its base is 0.
+    pub run: RunAsk,
+}
+
 /// An option, by its name.
 #[derive(Clone, Copy, Debug, PartialEq, Eq)]
 pub enum OptionName {

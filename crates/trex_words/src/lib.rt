@@ -5,7 +5,7 @@ mod asked;
 mod options;
 mod read;
 
-pub use asked::{Asked, OptionName, RunAsk, Usage};
+pub use asked::{Asked, OptionName, RunAsk, SampleAsk, Usage};
 pub use read::read_words;
 
 #[cfg(test)]

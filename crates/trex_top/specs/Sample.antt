@@ -1,0 +1,51 @@
+-- What a sample writes. Own.
+use Rattle.std.specs.Prelude.{◌≡◌, ℕ, ◌/◌, ◌%◌, List, [], ◌∷◌, codes, false, length, sum_by, Option}
+use Rattle.std.specs.List.{concat}
+use Rattle.std.specs.Fmt.{decimal, digit_glyph}
+use Rattle.trex_io.specs.Faults.{Rises}
+use Rattle.trex_io.specs.Texts.{WrotePart}
+use Rattle.trex_merge.specs.Frames.{Frame}
+use Rattle.trex_sample.specs.Sampled.{sampled}
+use Rattle.trex_sum.specs.Checksum.{sum_of, fold_of}
+use Rattle.trex_words.specs.declared.asked.RunAsk.{RunAsk}
+use Rattle.trex_words.specs.declared.asked.SampleAsk.{SampleAsk}
+use Rattle.trex_top.specs.declared.sampling.Counts.{Counts}
+use Rattle.trex_top.specs.declared.sampling.SampleFault.{SampleFault}
+use Rattle.trex_top.specs.declared.sampling.SampleFault.TheVariants.{Out, Memory}
+use Rattle.trex_top.specs.Capture.{capture_text, sequence}
+
+-- how many packets there are, of how many bytes, and the folded sum of their capture, whose times count from 1970 (RFC 1071, section 1)
+abbrev pub counts_of : List Frame → Counts
+counts_of frames = record {
+  packets = length frames;
+  bytes = sum_by (λ frame. length frame.bytes) frames;
+  sum = fold_of (sum_of (capture_text 0 frames));
+}
+
+-- the run of a sample: its times count from 1970
+abbrev pub run_of : SampleAsk → RunAsk
+run_of ask = record ask.run { base = 0 }
+
+-- what is counted of a sample: the packets of the profile that its seed determines
+unfoldable pub sample_counts : SampleAsk → Counts
+sample_counts ask = counts_of (sequence (sampled ask.seed ask.streams) (run_of ask))
+
+-- a number of 16 bits as four hexadecimal digits
+abbrev pub four_digits : ℕ → List ℕ
+four_digits n =
+    digit_glyph false (n / 4096) ∷ digit_glyph false (n / 256 % 16) ∷ digit_glyph false (n / 16 % 16) ∷ digit_glyph false (n % 16) ∷ []
+
+-- the line of a sample
+unfoldable pub sample_line : SampleAsk → Counts → List ℕ
+sample_line ask counts =
+    concat (codes "sample seed " ∷ decimal ask.seed ∷ codes " streams " ∷ decimal ask.streams ∷ codes " packets " ∷ decimal counts.packets
+    ∷ codes " bytes " ∷ decimal counts.bytes ∷ codes " sum " ∷ four_digits counts.sum ∷ codes "\n" ∷ [])
+
+-- the same with what is counted of it
+abbrev pub sample_text : SampleAsk → List ℕ
+sample_text ask = sample_line ask (sample_counts ask)
+
+-- why the line wasn't written: the count of faults rose, and a part of it was; or there was no memory, and nothing was
+abbrev pub Unshown : {O : Type 0} → (O → Option (List ℕ)) → (O → ℕ) → List ℕ → O → O → SampleFault → Type 0
+Unshown held faults text out out' Out = WrotePart held out out' text × Rises faults out out'
+Unshown held faults text out out' Memory = out' ≡ out
