@@ -6,3 +6,4 @@ pub mod Stepping
 pub mod Readying
 pub mod TooLong
 pub mod Clean
+pub mod Counted

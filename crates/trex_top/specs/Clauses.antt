@@ -15,6 +15,7 @@ use Rattle.trex_words.specs.declared.asked.Usage.{Usage as WordsFault}
 use Rattle.trex_words.specs.Asked.{asked}
 use Rattle.trex_words.specs.Help.{help_text}
 use Rattle.trex_top.specs.Capture.{capture}
+use Rattle.trex_top.specs.Sample.{sample_text}
 use Rattle.trex_top.specs.declared.command.Status.{Status}
 use Rattle.trex_top.specs.declared.command.Status.TheVariants.{Done, Usage, Refused, ReadFault, OutFault, NotesFault, BadCapture, Memory}
 
@@ -46,7 +47,7 @@ abbrev pub OnText : Asked → Option (List ℕ) → (List ℕ → Type 0) → Ty
 OnText (Run ask) input P = OnProfile input (λ p. P (capture p ask))
 OnText Check input P = OnProfile input (λ p. P (accepted_line (length p)))
 OnText Analyze input P = OnCapture input (λ rs. P (analysis_text rs))
-OnText (Sample ask) input P = Unit {0}
+OnText (Sample ask) input P = P (sample_text ask)
 OnText Help input P = P help_text
 
 -- where something else than a run is asked, this holds

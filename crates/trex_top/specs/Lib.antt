@@ -7,3 +7,4 @@ pub mod Steps
 pub mod Ready
 pub mod Clean
 pub mod Analysis
+pub mod Sample

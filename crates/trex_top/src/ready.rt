@@ -196,7 +196,9 @@ impl<'p> Ready<'p> {
     /// The packet that the last step went to.
     pub fn current(&self) -> Head<'_>
         requires { is_packet (next_in self.now.state) ≡ true }
-        ensures { slice_get (all_of self.now) (length self.now.state.sent) ≡ Some (frame_of result) }
+        ensures packet { slice_get (all_of self.now) (length self.now.state.sent) ≡ Some (frame_of result) }
+        ensures short { length result.bytes.now ≤ 9216 }
+        ensures early { result.time < 10 ^ 18 }
     {
         self.progress.current()
     }

@@ -1,32 +1,136 @@
-ghost use Rattle.std.specs.Prelude.{◌≡◌, OnErr, IsErr};
-ghost use Rattle.trex_words.specs.Asked.{IsSampleAsk};
+// The sample: a line that shows what the machine makes of a profile that a seed determines.
 
+ghost use Rattle.std.specs.Prelude.{◌≡◌, ℕ, ◌+◌, ◌*◌, ◌≤◌, ◌<◌, ◌^◌, ◌++◌, List, length, OnOk, IfOk, IfErr};
+ghost use Rattle.trex_io.specs.Texts.{Wrote};
+ghost use Rattle.trex_pcap.specs.Writing.{record_of};
+ghost use Rattle.trex_sum.specs.Running.{running};
+ghost use Rattle.trex_words.specs.Asked.{IsSampleAsk};
+ghost use Rattle.trex_top.specs.Ready.{all_of};
+ghost use Rattle.trex_report.specs.Texts.{line_text};
+ghost use Rattle.trex_top.specs.Sample.{Unshown, counts_of, line_of, sample_counts, sample_text};
+ghost use Rattle.trex_top.specs.Steps.{seen};
+
+use crate::ready::{Ready, prepare};
 use std::alloc::Global;
 use std::thread::Threads;
+use trex_core::Plan;
 use trex_crew::Gate;
-use trex_io::Sink;
-use trex_words::SampleAsk;
+use trex_io::{Memory, Sink};
+use trex_pcap::{header, record_header};
+use trex_report::{Line, write_line};
+use trex_sample::sample_profile;
+use trex_sum::{RunningSum, fold};
+use trex_words::{RunAsk, SampleAsk};
 
-/// Why a sample wasn't summed up.
+/// Why the line of a sample wasn't written.
 #[derive(Clone, Copy, Debug, PartialEq, Eq, Drop)]
 pub enum SampleFault {
-    /// The output could not be written.
+    /// The output failed, and a part of the line may stand there.
     Out,
-    /// Want of memory.
+    /// There was no memory for the profile or for its run, and nothing was written.
     Memory,
 }
 
-/// Sums up the capture of a sample profile.
-pub fn sample<R: Threads + Sync, O: Sink, G: Gate>(
-    _rt: &R,
-    _alloc: Global,
-    _ask: &SampleAsk,
-    out: &mut O,
-    _gates: &mut [G],
-) -> Result<(), SampleFault>
-    requires { IsSampleAsk _ask.now }
-    ensures stub { result ≡ Err SampleFault.Memory }
-    ensures unwritten { out.new ≡ out.old }
-{
-    Err(SampleFault::Memory)
+/// What is counted of a run: its packets, their bytes, and the folded sum of the whole capture (RFC 1071, section 1).
+#[derive(Clone, Copy)]
+pub(crate) struct Counts {
+    pub(crate) packets: u64,
+    pub(crate) bytes: u64,
+    pub(crate) sum: u16,
 }
+
+impl Counts {
+    /// The line of a sample of which this is counted.
+    fn line(&self, ask: &SampleAsk) -> Line
+        ensures { line_text result ≡ line_of ask.now self.now }
+    {
+        Line::Sample {
+            seed: ask.seed,
+            streams: ask.streams,
+            packets: self.packets,
+            bytes: self.bytes,
+            sum: self.sum,
+        }
+    }
+}
+
+/// Adds the record of a packet, whose absolute time is in nanoseconds, to a sum.
+fn add_record(sum: &mut RunningSum, time: u64, bytes: &[u8])
+    requires time { time < 2 ^ 32 * 10 ^ 9 }
+    requires short { length bytes.now ≤ 9216 }
+    requires room { sum.old.sum + 65536 * (16 + length bytes.now) < 2 ^ 64 }
+    ensures value { (front : List ℕ) → sum.old ≡ running front
+        → sum.new ≡ running (front ++ record_of (record { time = time; bytes = bytes.now })) }
+    ensures bound { sum.new.sum ≤ sum.old.sum + 65536 * (16 + length bytes.now) }
+{
+    sum.add(&record_header(time, bytes.len() as u32));
+    sum.add(bytes);
+}
+
+/// Goes through all packets of a run of which no step was taken, and counts them. Nothing is held of them.
+fn count_all<R: Threads + Sync, G: Gate>(
+    rt: &R,
+    ready: &mut Ready<'_>,
+    gates: &mut [G],
+) -> Counts
+    requires none { seen ready.old.state ≡ 0 }
+    requires limit { ready.old.state.limit ≤ 100000000 }
+    ensures { result ≡ counts_of (all_of ready.old) }
+{
+    let mut sum = RunningSum::new();
+    sum.add(&header());
+    let mut packets = 0;
+    let mut bytes = 0;
+    'packets: while ready.step(rt, gates) {
+        let head = ready.current();
+        add_record(&mut sum, head.time, head.bytes);
+        packets += 1;
+        bytes += head.bytes.len() as u64;
+    }
+    Counts {
+        packets,
+        bytes,
+        sum: fold(sum.sum()),
+    }
+}
+
+/// Makes the profile of a sample and counts what its run sends.
+fn count_sample<R: Threads + Sync, G: Gate>(
+    rt: &R,
+    alloc: Global,
+    ask: &SampleAsk,
+    gates: &mut [G],
+) -> Result<Counts, Memory>
+    requires { IsSampleAsk ask.now }
+    ensures { IfOk result (λ counts. counts ≡ sample_counts ask.now) }
+{
+    let run = RunAsk { base: 0, ..ask.run };
+    let profile = sample_profile(alloc, ask.seed, ask.streams)?;
+    let plan = Plan::new(&profile, run.duration, run.base);
+    let mut ready = prepare(alloc, &profile, &plan, &run)?;
+    Ok(count_all(rt, &mut ready, gates))
+}
+
+/// Runs the profile that a seed determines, and writes one line on what it sends. The packets go by and none is held.
+pub fn sample<R: Threads + Sync, O: Sink, G: Gate>(
+    rt: &R,
+    alloc: Global,
+    ask: &SampleAsk,
+    out: &mut O,
+    gates: &mut [G],
+) -> Result<(), SampleFault>
+    requires { IsSampleAsk ask.now }
+    ensures done { OnOk result (Wrote O.held out.old out.new (sample_text ask.now)) }
+    ensures stops { IfErr result (Unshown O.held O.faults (sample_text ask.now) out.old out.new) }
+{
+    let Ok(counts) = count_sample(rt, alloc, ask, gates) else {
+        return Err(SampleFault::Memory);
+    };
+    match write_line(out, counts.line(ask)) {
+        Ok(()) => Ok(()),
+        Err(_) => Err(SampleFault::Out),
+    }
+}
+
+#[cfg(test)]
+mod tests;

@@ -1,0 +1,22 @@
+use Rattle.std.proofs.Common.{◌≡◌, ◌+◌, ◌-◌, ◌*◌, ◌≤◌, length, sum_by, take}
+use Rattle.trex_merge.specs.Frames.{Frame}
+use Rattle.trex_sum.specs.Running.{running}
+use Rattle.trex_top.specs.Capture.{capture_text}
+use Rattle.trex_top.specs.Ready.{all_of}
+use Rattle.trex_top.specs.Steps.{seen}
+use Rattle.trex_top.proofs.sampling.count_all.Given as goal
+
+abbrev pub invariant-packets : goal.invariant-packets
+invariant-packets g l = record {
+  plan : l.ready.plan ≡ l.initial.ready.plan;
+  limit : l.ready.state.limit ≡ l.initial.ready.state.limit;
+  within : seen l.ready.state ≤ length (all_of l.initial.ready);
+  summed : l.sum ≡ running (capture_text 0 (take (seen l.ready.state) (all_of l.initial.ready)));
+  room : l.sum.sum ≤ 65536 * (24 + 9232 * seen l.ready.state);
+  packets : l.packets ≡ seen l.ready.state;
+  bytes : l.bytes ≡ sum_by (λ (frame : Frame). length frame.bytes) (take (seen l.ready.state) (all_of l.initial.ready));
+  small : l.bytes ≤ 9216 * seen l.ready.state;
+}
+
+abbrev pub decreases-packets : goal.decreases-packets
+decreases-packets g l = length (all_of l.initial.ready) - seen l.ready.state

@@ -1,0 +1,43 @@
+-- What a sample writes. Own.
+use Rattle.std.specs.Prelude.{◌≡◌, ℕ, List, length, sum_by, Option}
+use Rattle.trex_io.specs.Faults.{Rises}
+use Rattle.trex_io.specs.Texts.{WrotePart}
+use Rattle.trex_merge.specs.Frames.{Frame}
+use Rattle.trex_report.specs.Texts.{sample_line}
+use Rattle.trex_sample.specs.Sampled.{sampled}
+use Rattle.trex_sum.specs.Checksum.{sum_of, fold_of}
+use Rattle.trex_words.specs.declared.asked.RunAsk.{RunAsk}
+use Rattle.trex_words.specs.declared.asked.SampleAsk.{SampleAsk}
+use Rattle.trex_top.specs.declared.sampling.Counts.{Counts}
+use Rattle.trex_top.specs.declared.sampling.SampleFault.{SampleFault}
+use Rattle.trex_top.specs.declared.sampling.SampleFault.TheVariants.{Out, Memory}
+use Rattle.trex_top.specs.Capture.{capture_text, sequence}
+
+-- how many packets there are, of how many bytes, and the folded sum of their capture, whose times count from 1970 (RFC 1071, section 1)
+abbrev pub counts_of : List Frame → Counts
+counts_of frames = record {
+  packets = length frames;
+  bytes = sum_by (λ frame. length frame.bytes) frames;
+  sum = fold_of (sum_of (capture_text 0 frames));
+}
+
+-- the run of a sample: its times count from 1970
+abbrev pub run_of : SampleAsk → RunAsk
+run_of ask = record ask.run { base = 0 }
+
+-- what is counted of a sample: the packets of the profile that its seed determines
+unfoldable pub sample_counts : SampleAsk → Counts
+sample_counts ask = counts_of (sequence (sampled ask.seed ask.streams) (run_of ask))
+
+-- the line of a sample of which this is counted
+abbrev pub line_of : SampleAsk → Counts → List ℕ
+line_of ask counts = sample_line ask.seed ask.streams counts.packets counts.bytes counts.sum
+
+-- the same with what is counted of it
+abbrev pub sample_text : SampleAsk → List ℕ
+sample_text ask = line_of ask (sample_counts ask)
+
+-- why the line wasn't written: the count of faults rose, and a part of it was; or there was no memory, and nothing was
+abbrev pub Unshown : {O : Type 0} → (O → Option (List ℕ)) → (O → ℕ) → List ℕ → O → O → SampleFault → Type 0
+Unshown held faults text out out' Out = WrotePart held out out' text × Rises faults out out'
+Unshown held faults text out out' Memory = out' ≡ out
