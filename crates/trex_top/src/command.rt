@@ -1,9 +1,11 @@
-ghost use Rattle.std.specs.Prelude.{◌≡◌, ◌↔◌, map, length, string_bytes, IsErr, IfErr, IfSome};
+ghost use Rattle.std.specs.Prelude.{◌≡◌, ◌↔◌, None, map, length, string_bytes, IsErr, IfErr, IfSome};
 ghost use Rattle.std.specs.Io.KnownBytes.{IsAtEnd};
 ghost use Rattle.trex_io.specs.Faults.{Rises};
 ghost use Rattle.trex_io.specs.Texts.{Wrote, WrotePart};
+ghost use Rattle.trex_crew.specs.Told.{IfTold};
 ghost use Rattle.trex_words.specs.Asked.{asked};
-ghost use Rattle.trex_top.specs.Capture.{capture, report};
+ghost use Rattle.trex_top.specs.Capture.{capture, report, sequence};
+ghost use Rattle.trex_top.specs.Rounds.{AreRounds, TellEnough, cores_asked};
 ghost use Rattle.trex_top.specs.Texts.{line_text, accepted_line};
 ghost use Rattle.trex_top.specs.Clauses.{OnRefusal, OnRun, OnlyRun, OnCheck, IfProfile, IfRefusal, Tells, MayRefuse, MaySucceed, WritesNothing, fixed_line};
 
@@ -81,6 +83,14 @@ pub fn trex_main<R: Threads + Sync, S: Source, O: Sink, N: Sink, G: Gate>(
     ensures notes_cause { result ≡ Status.NotesFault → Rises N.faults notes.old notes.new }
     ensures unwritten { WritesNothing result → out.new ≡ out.old }
     ensures lines { IfSome (fixed_line result) (λ line. Tells N.held N.faults notes.old notes.new line) }
+
+    // Where the gates tell their entries: these are whole rounds of the cores, as many as the packets want. Before the first round, and where
+    // no run is asked for, no gate is entered.
+    ensures rounds { IfSome (cores_asked (asked (map string_bytes words.now))) (λ cores. IfTold G.entries gates.old gates.new (AreRounds cores)) }
+    ensures enough { result ≡ Status.Done → OnRun (map string_bytes words.now) (S.left input.old) (λ ask p.
+        TellEnough G.entries ask.cores (sequence p ask) gates.old gates.new) }
+    ensures unasked { cores_asked (asked (map string_bytes words.now)) ≡ None → gates.new ≡ gates.old }
+    ensures untold { WritesNothing result → gates.new ≡ gates.old }
 
     // Where nothing fails, what is asked is done.
     ensures complete { IfProfile (map string_bytes words.now) (S.left input.old) (¬ Rises S.faults input.old input.new

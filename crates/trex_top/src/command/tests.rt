@@ -3,7 +3,7 @@ use std::alloc::Global;
 use std::process::Abort;
 use std::test::Fail;
 use std::thread::Threads;
-use trex_crew::Open;
+use trex_crew::{Gate, Open};
 use trex_io::{MemSink, MemSource};
 use trex_pcap::{header, record_header};
 
@@ -75,13 +75,14 @@ fn capture(alloc: Global, sent: &[(u32, u8)]) -> Result<Vec<u8>, Fail> {
     Ok(bytes)
 }
 
-/// Runs over memory, at most ten bytes a call.
-fn run<R: Threads + Sync>(
+/// Runs over memory, at most ten bytes a call, with these gates.
+fn run_with<R: Threads + Sync, G: Gate>(
     rt: &R,
     alloc: Global,
     line: &str,
     text: &str,
     failing: Failing,
+    gates: &mut [G],
 ) -> Result<Ran, Fail> {
     let mut words = Vec::new(alloc);
     for word in line.split_ascii_whitespace() {
@@ -91,11 +92,19 @@ fn run<R: Threads + Sync>(
     let mut input = MemSource::new(text, 10, Vec::from_slice(alloc, &[failing.input])?);
     let mut out = MemSink::new(alloc, ROOM, 10, Vec::from_slice(alloc, &[failing.out])?)?;
     let mut notes = MemSink::new(alloc, 1_000, 10, Vec::from_slice(alloc, &[failing.notes])?)?;
-    let mut gates = [Open; 2];
-    let status = trex_main(
-        rt, alloc, &words, &mut input, &mut out, &mut notes, &mut gates,
-    );
+    let status = trex_main(rt, alloc, &words, &mut input, &mut out, &mut notes, gates);
     Ok(Ran { status, out, notes })
+}
+
+/// The same with two gates that are always open.
+fn run<R: Threads + Sync>(
+    rt: &R,
+    alloc: Global,
+    line: &str,
+    text: &str,
+    failing: Failing,
+) -> Result<Ran, Fail> {
+    run_with(rt, alloc, line, text, failing, &mut [Open; 2])
 }
 
 /// Looks at what a run left.
@@ -434,4 +443,5 @@ fn cycles_of_three_and_bursts_without_end(rt: HostRuntime) -> Result<(), Fail> {
     assert_sent(&rt, alloc, "run --limit 1", &endless, &[(0, 1)])
 }
 
+mod gates;
 mod packets;
