@@ -14,10 +14,11 @@ use Rattle.trex_core.specs.Turning.{stem-refilled}
 use Rattle.trex_merge.specs.declared.next.Next.{Next}
 use Rattle.trex_merge.specs.declared.next.Next.TheVariants.{Packet, Need, End}
 use Rattle.trex_merge.specs.Frames.{Frame, key_of, sequence, share}
-use Rattle.trex_merge.specs.Machine.{Emit, IsEnded, IsMill, MillState, happens, next_in, run}
+use Rattle.trex_merge.specs.Machine.{Emit, HaveShares, IsEnded, IsMill, MillState, happens, next_in, run}
+use Rattle.trex_merge.proofs.Kept.{emit_shares, start_shares}
 use Rattle.trex_merge.proofs.Events.{emit_keeps, next_in_sequence, run_keeps, start_is}
 use Rattle.trex_merge.proofs.Coming.{end_is_ended, packet_is_least}
-use Rattle.std.proofs.lemmas.List.{length-take-le, take-map}
+use Rattle.std.proofs.lemmas.List.{length-map, length-take-le, take-map}
 use Rattle.trex_merge.specs.Order.{AreDistinct, Has, IsRising, joined, ordered}
 use Rattle.trex_merge.specs.Queues.{Queue, all_waiting, is_needy, is_none_left, next_of, refilled, stem, waiting_at}
 use Rattle.trex_merge.proofs.Laws.{all_at, all_from, ordered_kept, same-ordered}
@@ -34,7 +35,9 @@ use Rattle.trex_top.proofs.Schedule.{take-next}
 use Rattle.trex_crew.specs.Crews.{AreInOrder}
 use Rattle.std.specs.Prelude.{if◌then◌else◌}
 use Rattle.std.proofs.lemmas.List.FromFn.{length-map-range_with_len}
+use Rattle.trex_top.specs.Rounds.{IsFed, Suffice}
 use Rattle.trex_top.specs.Steps.{is_packet, seen, queues_after, round_from, rounds_after, sent_after, state_of, stepped, supplied, works_after}
+use Rattle.trex_top.proofs.Feeding.{as_many, cores_by_marks, cores_turned, fed_after, fed_first, fed_more, in_order_still, shares_round, suffices}
 use Rattle.trex_top.proofs.Stepping.{emit_is, goes_on, next_is, round_is}
 
 -- ---- after a turn nobody has to be waited for
@@ -166,6 +169,8 @@ after_emit frames works works' rounds limit sent sent' next next' ready queues m
     let counted : sent' ≤ length (ordered key_of frames) = rw count emitted.1 in
     let many : sent + coming next ≡ sent' = sym (count ∙ sent_after_is next sent) in
     let rounds_before = ready.rounds_are in
+    let cores = cores_by_marks works' works marks in
+    let as_long : length works' ≡ length works = as_many works' works cores in
     let turns : AllByRecursion (λ work. work.turns ≤ sent') works' = turns_by_marks sent' works' works marks (turns_within (sent + coming next) sent' works (omega (arith, many)) ready.turns) in
     record {
       ready = record {
@@ -176,6 +181,10 @@ after_emit frames works works' rounds limit sent sent' next next' ready queues m
         limited = ready.limited;
         turns = turns_within sent' (sent' + coming next') works' (omega arith) turns;
         rounds_are = omega (arith, many, rounds_before);
+        cores_are = in_order_still works' works cores ready.cores_are;
+        shares = subst (λ n. HaveShares n frames (state_of frames (queues_of works') sent' limit)) (sym as_long)
+            (rw (queues, count) (subst (HaveShares (length works) frames) emitted.0 (emit_shares frames (length works) (state_of frames (queues_of works) sent limit) ready.shares)));
+        fed = rw (as_long, queues) (fed_after (length works) frames rounds next (queues_of works) ready.fed);
       };
       turns = turns;
       rounds_are = omega (arith, many, rounds_before);
@@ -220,6 +229,8 @@ after_supply frames works works' rounds rounds' limit sent (Need core) next send
     let packet : is_packet next ≡ true = ap is_packet (is ∙ ap (next_of (limit - sent)) queues) ∙ goes in
     let one = coming_one next packet in
     let many = sends.rounds_are in
+    let cores : map (λ (w : Work). w.core) works' ≡ map (λ (w : Work). w.core) works = ap (map (λ (w : Work). w.core)) same ∙ cores_turned works in
+    let as_long : length works' ≡ length works = as_many works' works cores in
     record {
       ready = record {
         is = rw queues now;
@@ -229,16 +240,23 @@ after_supply frames works works' rounds rounds' limit sent (Need core) next send
         limited = sends.ready.limited;
         turns = rw same (turns_within (sent + 1) (sent + coming next) (map turned works) (omega (arith, one)) (turns_more sent works sends.turns));
         rounds_are = omega (arith, one, many, count);
+        cores_are = in_order_still works' works cores sends.ready.cores_are;
+        shares = subst (λ n. HaveShares n frames (state_of frames (queues_of works') sent limit)) (sym as_long)
+            (rw queues (shares_round (length works) frames old sent limit sends.ready.shares));
+        fed = rw (as_long, queues, count) (fed_more (length works) frames rounds old sends.ready.fed);
       };
       state = ap (λ (l : List Queue). state_of frames l sent limit) queues ∙ sym round;
       served = λ other. packet_served next other packet;
     }
 
 -- a whole step of the run
-pub record IsGone (frames : List Frame) (works works' : List Work) (rounds limit sent sent' : ℕ) (next : Next) : Type 0 where
+pub record IsGone (frames : List Frame) (works between works' : List Work) (rounds limit sent sent' : ℕ) (after next : Next) : Type 0 where
   pub ready : IsReady frames works' rounds limit sent' next
   pub state : state_of frames (queues_of works') sent' limit ≡ stepped added (state_of frames (queues_of works) sent limit)
   pub served : (core : ℕ) → ¬ (next ≡ Need core)
+  pub then_is : next_in (happens (state_of frames (queues_of works) sent limit) Emit) ≡ after
+  pub cores : length works' ≡ length works
+  pub order : map (λ (w : Work). w.core) between ≡ range_with_len 0 (length works)
 
 pub gone : (frames : List Frame) (works between works' : List Work) (rounds rounds' limit sent sent' : ℕ) (next after next' : Next)
     → IsReady frames works rounds limit sent next
@@ -246,7 +264,7 @@ pub gone : (frames : List Frame) (works between works' : List Work) (rounds roun
     → map (λ (w : Work). w.core ∷ w.turns ∷ []) between ≡ map (λ (w : Work). w.core ∷ w.turns ∷ []) works
     → sent' ≡ sent_after next sent → after ≡ next_of (limit - sent') (queues_of between)
     → works' ≡ works_after turned after between → rounds' ≡ rounds_after after rounds → next' ≡ next_of (limit - sent') (queues_of works')
-    → IsGone frames works works' rounds' limit sent sent' next'
+    → IsGone frames works between works' rounds' limit sent sent' after next'
 gone frames works between works' rounds rounds' limit sent sent' next after next' ready queues marks count is works_are rounds_are is' =
     let sends = after_emit frames works between rounds limit sent sent' next after ready queues marks count is in
     let step = after_supply frames between works' rounds rounds' limit sent' after next' sends works_are rounds_are is' in
@@ -260,7 +278,15 @@ gone frames works between works' rounds rounds' limit sent sent' next after next
       state = step.state ∙ sym (ap (λ (s : MillState). supplied added (next_in s) s) state
           ∙ ap (λ (n : Next). supplied added n (state_of frames (queues_of between) sent' limit)) coming_then);
       served = step.served;
+      then_is = ap next_in state ∙ coming_then;
+      cores = supplied_as_many after between works' works_are ∙ as_many between works (cores_by_marks between works marks);
+      order = cores_by_marks between works marks ∙ ready.cores_are;
     }
+  where
+    supplied_as_many : (after : Next) (between works' : List Work) → works' ≡ works_after turned after between → length works' ≡ length between
+    supplied_as_many (Packet at) between works' is = ap length is
+    supplied_as_many End between works' is = ap length is
+    supplied_as_many (Need core) between works' is = ap length is ∙ length-map between turned
 
 -- ---- the first packet that waits somewhere
 
@@ -331,6 +357,21 @@ ended frames works rounds limit sent (Need core) ready none served = absurd (ser
 ended frames works rounds limit sent End ready none served =
     (end_is_ended (state_of frames (queues_of works) sent limit)).0 (next_is frames (queues_of works) sent limit ready.counted ∙ sym ready.next_is)
 
+-- and then the rounds sufficed
+pub ended_suffices : (frames : List Frame) (works : List Work) (rounds limit sent : ℕ) (next : Next) → IsReady frames works rounds limit sent next
+    → is_packet next ≡ false → take sent (ordered key_of frames) ≡ sequence limit frames → Suffice (length works) rounds (sequence limit frames)
+ended_suffices frames works rounds limit sent next ready none whole =
+    let long = length-take-le sent (ordered key_of frames) ready.counted in
+    let all = ap length whole in
+    let many = ready.rounds_are in
+    let no_more = coming_none next none in
+    suffices frames works rounds sent limit (sequence limit frames) ready.shares ready.fed whole (omega arith)
+  where
+    coming_none : (next : Next) → is_packet next ≡ false → coming next ≡ 0
+    coming_none (Packet at) is = cc
+    coming_none (Need core) is = refl
+    coming_none End is = refl
+
 -- before the first turn nothing waits
 none_waits : (works : List Work) (at : ℕ) (waiting : List Frame) → AllByRecursion (λ work. work.queue.waiting ≡ []) works
     → slice_get (all_waiting (queues_of works)) at ≡ Some waiting → waiting ≡ []
@@ -355,6 +396,15 @@ first_queues frames cores from zero = refl
 first_queues frames cores from (suc count) =
     ap (λ (l : List Queue). record { waiting = []; coming = share from cores frames } ∷ l) (first_queues frames cores (from + 1) count)
 
+-- the works are in order of core
+first_cores : (frames : List Frame) (cores from count : ℕ) → map (λ (w : Work). w.core) (map (first_work cores frames) (range_with_len from count)) ≡ range_with_len from count
+first_cores frames cores from zero = refl
+first_cores frames cores from (suc count) = ap (λ (l : List ℕ). from ∷ l) (first_cores frames cores (from + 1) count)
+
+first_none_waits : (frames : List Frame) (cores from count : ℕ) → AllByRecursion (λ queue. queue.waiting ≡ []) (queues_of (map (first_work cores frames) (range_with_len from count)))
+first_none_waits frames cores from zero = tt
+first_none_waits frames cores from (suc count) = (refl, first_none_waits frames cores (from + 1) count)
+
 -- no packet comes next
 nothing_comes : (frames : List Frame) (cores limit : ℕ) (next : Next) → next ≡ next_of (limit - 0) (queues_of (first_works cores frames)) → coming next ≡ 0
 nothing_comes frames cores limit (Need core) is = refl
@@ -375,6 +425,9 @@ begins frames works cores limit next distinct short some few first is =
     let is' : next ≡ next_of (limit - 0) (queues_of (first_works cores frames)) = is ∙ ap (λ (w : List Work). next_of (limit - 0) (queues_of w)) first in
     let mill : IsMill frames (state_of frames (queues_of works) 0 limit) =
     rw (first, first_queues frames cores 0 cores) (start_is frames cores limit distinct some) in
+    let long : length works ≡ cores = ap length first ∙ length-map-range_with_len (first_work cores frames) 0 cores in
+    let shares : HaveShares cores frames (state_of frames (queues_of works) 0 limit) = rw (first, first_queues frames cores 0 cores) (start_shares frames cores limit) in
+    let none : AllByRecursion (λ queue. queue.waiting ≡ []) (queues_of works) = rw first (first_none_waits frames cores 0 cores) in
     record {
       ready = record {
         is = mill;
@@ -384,6 +437,9 @@ begins frames works cores limit next distinct short some few first is =
         limited = few;
         turns = rw first (first_turns frames cores 0 cores (0 + coming next));
         rounds_are = omega arith;
+        cores_are = ap (map (λ (w : Work). w.core)) first ∙ first_cores frames cores 0 cores ∙ ap (range_with_len 0) (sym long);
+        shares = subst (λ n. HaveShares n frames (state_of frames (queues_of works) 0 limit)) (sym long) shares;
+        fed = subst (λ n. IsFed n frames 0 (queues_of works)) (sym long) (fed_first cores frames (queues_of works) limit shares none);
       };
       none = nothing_comes frames cores limit next is';
     }

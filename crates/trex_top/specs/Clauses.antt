@@ -14,8 +14,9 @@ use Rattle.trex_words.specs.declared.asked.Asked.TheVariants.{Run, Check, Analyz
 use Rattle.trex_words.specs.declared.asked.Usage.{Usage as WordsFault}
 use Rattle.trex_words.specs.Asked.{asked}
 use Rattle.trex_words.specs.Help.{help_text}
-use Rattle.trex_top.specs.Capture.{capture}
-use Rattle.trex_top.specs.Sample.{sample_text}
+use Rattle.trex_merge.specs.Frames.{Frame}
+use Rattle.trex_top.specs.Capture.{capture, sequence}
+use Rattle.trex_top.specs.Sample.{sample_sequence, sample_text}
 use Rattle.trex_top.specs.declared.command.Status.{Status}
 use Rattle.trex_top.specs.declared.command.Status.TheVariants.{Done, Usage, Refused, ReadFault, OutFault, NotesFault, BadCapture, Memory}
 
@@ -49,6 +50,14 @@ OnText Check input P = OnProfile input (λ p. P (accepted_line (length p)))
 OnText Analyze input P = OnCapture input (λ rs. P (analysis_text rs))
 OnText (Sample ask) input P = P (sample_text ask)
 OnText Help input P = P help_text
+
+-- The packets that a request sends, on how many cores, and this holds of both. It claims nothing of an input that isn't told.
+abbrev pub OnSequence : Asked → Option (List ℕ) → (ℕ → List Frame → Type 0) → Type 0
+OnSequence (Run ask) input P = OnProfile input (λ p. P ask.cores (sequence p ask))
+OnSequence Check input P = Unit {0}
+OnSequence Analyze input P = Unit {0}
+OnSequence (Sample ask) input P = P ask.run.cores (sample_sequence ask)
+OnSequence Help input P = Unit {0}
 
 -- where something else than a run is asked, this holds
 abbrev pub IfOther : Asked → Type 0 → Type 0

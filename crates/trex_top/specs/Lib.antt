@@ -3,6 +3,7 @@ pub mod Counting
 pub mod Pieces
 pub mod Clauses
 pub mod Making
+pub mod Rounds
 pub mod Steps
 pub mod Ready
 pub mod Clean

@@ -7,11 +7,12 @@ use Rattle.trex_core.specs.Works.{Work, added}
 use Rattle.trex_merge.specs.declared.next.Next.{Next}
 use Rattle.trex_merge.specs.declared.next.Next.TheVariants.{Packet, Need, End}
 use Rattle.trex_merge.specs.Frames.{Frame, key_of, sequence, share}
-use Rattle.trex_merge.specs.Machine.{IsMill, MillState}
+use Rattle.trex_merge.specs.Machine.{HaveShares, IsMill, MillState}
 use Rattle.trex_merge.specs.Order.{ordered}
 use Rattle.trex_merge.specs.Queues.{Queue, next_of, waiting_at}
 use Rattle.trex_report.specs.declared.report.Tally.{Tally}
 use Rattle.trex_top.specs.Counting.{counted}
+use Rattle.trex_top.specs.Rounds.{IsFed}
 use Rattle.trex_top.specs.Steps.{state_of, seen}
 
 -- what the cores have still to send
@@ -32,8 +33,8 @@ coming (Packet at) = 1
 coming (Need core) = 0
 coming End = 0
 
--- The works, the number of rounds, the limit, the number of packets sent and what comes next are those of a mill over the packets. There
--- were no more rounds than packets gone to.
+-- The works, the number of rounds, the limit, the number of packets sent and what comes next are those of a mill over the packets, of which
+-- each core has its share. There were no more rounds than packets gone to.
 pub record IsReady (frames : List Frame) (works : List Work) (rounds limit sent : ℕ) (next : Next) : Type 0 where
   pub is : IsMill frames (state_of frames (queues_of works) sent limit)
   pub counted : sent ≤ length (ordered key_of frames)
@@ -42,11 +43,19 @@ pub record IsReady (frames : List Frame) (works : List Work) (rounds limit sent 
   pub limited : limit ≤ 100000000
   pub turns : AllByRecursion (λ work. work.turns ≤ sent + coming next) works
   pub rounds_are : rounds ≤ sent + coming next
+  pub cores_are : map (λ work. work.core) works ≡ range_with_len 0 (length works)
+  pub shares : HaveShares (length works) frames (state_of frames (queues_of works) sent limit)
+  pub fed : IsFed (length works) frames rounds (queues_of works)
 
--- a run: its plan, and its mill
+-- a run: its plan, its mill, and how many rounds were made
 pub record Stand : Type 0 where
   pub plan : PlanOf
   pub state : MillState
+  pub rounds : ℕ
+
+-- on how many cores it runs
+abbrev pub cores_of : Stand → ℕ
+cores_of stand = length stand.state.queues
 
 -- all packets that the run sends
 abbrev pub all_of : Stand → List Frame

@@ -25,9 +25,13 @@ counts_of frames = record {
 abbrev pub run_of : SampleAsk → RunAsk
 run_of ask = record ask.run { base = 0 }
 
--- what is counted of a sample: the packets of the profile that its seed determines
+-- the packets of a sample: those of the profile that its seed determines
+abbrev pub sample_sequence : SampleAsk → List Frame
+sample_sequence ask = sequence (sampled ask.seed ask.streams) (run_of ask)
+
+-- what is counted of a sample
 unfoldable pub sample_counts : SampleAsk → Counts
-sample_counts ask = counts_of (sequence (sampled ask.seed ask.streams) (run_of ask))
+sample_counts ask = counts_of (sample_sequence ask)
 
 -- the line of a sample of which this is counted
 abbrev pub line_of : SampleAsk → Counts → List ℕ

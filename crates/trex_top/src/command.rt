@@ -1,11 +1,13 @@
-ghost use Rattle.std.specs.Prelude.{◌≡◌, ◌↔◌, map, string_bytes, IsErr, IfOk, IfErr, IfSome};
+ghost use Rattle.std.specs.Prelude.{◌≡◌, ◌↔◌, None, map, string_bytes, IsErr, IfOk, IfErr, IfSome};
 ghost use Rattle.std.specs.Io.KnownBytes.{IsAtEnd};
+ghost use Rattle.trex_crew.specs.Told.{IfTold};
 ghost use Rattle.trex_io.specs.Faults.{Rises};
 ghost use Rattle.trex_io.specs.Texts.{Wrote, WrotePart};
 ghost use Rattle.trex_report.specs.Texts.{line_text};
 ghost use Rattle.trex_words.specs.Asked.{asked};
 ghost use Rattle.trex_top.specs.Capture.{capture, report};
-ghost use Rattle.trex_top.specs.Clauses.{OnFault, OnRefusal, OnRun, OnlyRun, OnText, IfBad, IfGood, IfOther, IfRead, IfRefused, IfUnread, IsAmong, Tells, MayBeBad, MayRefuse, MaySucceed, WritesNothing, fixed_line, statuses};
+ghost use Rattle.trex_top.specs.Clauses.{OnFault, OnRefusal, OnRun, OnSequence, OnlyRun, OnText, IfBad, IfGood, IfOther, IfRead, IfRefused, IfUnread, IsAmong, Tells, MayBeBad, MayRefuse, MaySucceed, WritesNothing, fixed_line, statuses};
+ghost use Rattle.trex_top.specs.Rounds.{AreRounds, TellEnough, cores_asked};
 
 use crate::analysis::{AnalyzeFault, analyze};
 use crate::check::check;
@@ -97,6 +99,14 @@ pub fn trex_main<R: Threads + Sync, S: Source, O: Sink, N: Sink, G: Gate>(
     ensures notes_cause { result ≡ Status.NotesFault → Rises N.faults notes.old notes.new }
     ensures unwritten { WritesNothing result → out.new ≡ out.old }
     ensures lines { IfSome (fixed_line result) (λ line. Tells N.held N.faults notes.old notes.new line) }
+
+    // Where the gates tell their entries: these are whole rounds of the cores, as many as the packets want. Before the first round, and where
+    // neither a run nor a sample is asked for, no gate is entered.
+    ensures rounds { IfSome (cores_asked (asked (map string_bytes words.now))) (λ cores. IfTold G.entries gates.old gates.new (AreRounds cores)) }
+    ensures enough { result ≡ Status.Done → IfOk (asked (map string_bytes words.now)) (λ ask.
+        OnSequence ask (S.left input.old) (λ cores frames. TellEnough G.entries cores frames gates.old gates.new)) }
+    ensures unasked { cores_asked (asked (map string_bytes words.now)) ≡ None → gates.new ≡ gates.old }
+    ensures untold { WritesNothing result → gates.new ≡ gates.old }
 
     // Where nothing fails, what is asked is done.
     ensures complete { IfOk (asked (map string_bytes words.now)) (λ ask. IfGood ask (S.left input.old) (

@@ -7,11 +7,13 @@ ghost use Rattle.trex_core.specs.Works.{added};
 ghost use Rattle.trex_crew.specs.Crews.{works_of};
 ghost use Rattle.trex_merge.specs.declared.next.Next.TheVariants.{Need as ANeed, Packet as APacket};
 ghost use Rattle.trex_merge.specs.Frames.{frame_of, sequence};
+ghost use Rattle.trex_merge.specs.Machine.{Emit, happens, next_in};
 ghost use Rattle.trex_merge.specs.Queues.{IsLeastAt, waiting_at};
 ghost use Rattle.trex_top.specs.Capture.{tallies as tallies_of};
 ghost use Rattle.trex_top.specs.Counting.{AreOf, counted};
 ghost use Rattle.trex_top.specs.Ready.{CountsNext, IsReady, coming, queues_of};
-ghost use Rattle.trex_top.specs.Steps.{state_of, stepped};
+ghost use Rattle.trex_top.specs.Rounds.{TellRounds};
+ghost use Rattle.trex_top.specs.Steps.{rounds_after, state_of, stepped};
 
 use crate::steps::{emit, steps_are_events, supply};
 use std::thread::Threads;
@@ -36,6 +38,10 @@ fn go_on<R: Threads + Sync, G: Gate>(
     ensures limit { mill.new.limit ≡ mill.old.limit }
     ensures sent { mill.new.sent ≡ mill.old.sent + coming next }
     ensures served { (core : ℕ) → ¬ (result ≡ ANeed core) }
+    ensures cores { length (works_of crew.new) ≡ length (works_of crew.old) }
+    ensures rounds { crew.new.rounds ≡ rounds_after
+        (next_in (happens (state_of (frames_of_plan plan.now) (queues_of (works_of crew.old)) mill.old.sent mill.old.limit) Emit)) crew.old.rounds }
+    ensures gates { TellRounds G.entries (length (works_of crew.old)) crew.old.rounds crew.new.rounds gates.old gates.new }
 {
     let then = emit(mill, crew, next);
     supply(rt, mill, crew, then, gates)
@@ -104,6 +110,10 @@ pub(crate) fn advance<R: Threads + Sync, G: Gate>(
     ensures limit { mill.new.limit ≡ mill.old.limit }
     ensures sent { mill.new.sent ≡ mill.old.sent + coming next }
     ensures served { (core : ℕ) → ¬ (result ≡ ANeed core) }
+    ensures cores { length (works_of crew.new) ≡ length (works_of crew.old) }
+    ensures rounds { crew.new.rounds ≡ rounds_after
+        (next_in (happens (state_of (frames_of_plan plan.now) (queues_of (works_of crew.old)) mill.old.sent mill.old.limit) Emit)) crew.old.rounds }
+    ensures gates { TellRounds G.entries (length (works_of crew.old)) crew.old.rounds crew.new.rounds gates.old gates.new }
 {
     let then = go_on(rt, plan, mill, crew, next, gates);
     count_next(crew.works(), then, tallies);

@@ -7,12 +7,13 @@ ghost use Rattle.trex_core.specs.Plan.{frames_of_plan};
 ghost use Rattle.trex_core.specs.Works.{added};
 ghost use Rattle.trex_crew.specs.Crews.{works_of};
 ghost use Rattle.trex_merge.specs.Frames.{frame_of};
-ghost use Rattle.trex_merge.specs.Machine.{IsEnded, next_in};
+ghost use Rattle.trex_merge.specs.Machine.{Emit, IsEnded, happens, next_in};
 ghost use Rattle.trex_profile.specs.Admission.{refusal_of};
 ghost use Rattle.trex_words.specs.Asked.{IsRunAsk};
 ghost use Rattle.trex_top.specs.Capture.{capture_text, sequence, tallies as tallies_of};
-ghost use Rattle.trex_top.specs.Ready.{IsShort, all_of, first_works, gone_to};
-ghost use Rattle.trex_top.specs.Steps.{is_packet, seen, stepped};
+ghost use Rattle.trex_top.specs.Ready.{IsShort, all_of, cores_of, first_works, gone_to};
+ghost use Rattle.trex_top.specs.Rounds.{Suffice, TellRounds};
+ghost use Rattle.trex_top.specs.Steps.{is_packet, rounds_after, seen, stepped};
 
 use crate::go_on::{advance, head_of};
 use crate::pieces::PIECE;
@@ -28,8 +29,8 @@ use trex_profile::Profile;
 use trex_report::Tally;
 use trex_words::RunAsk;
 
-/// How far a run has come: its cores' works, the merge of their packets, and what was counted of each stream. Contracts see it as its plan
-/// and the mill.
+/// How far a run has come: its cores' works, the merge of their packets, and what was counted of each stream. Contracts see it as its plan,
+/// the mill and the number of rounds.
 #[derive(Drop)]
 pub(crate) struct Progress<'p> {
     plan: &'p Plan<'p>,
@@ -55,6 +56,7 @@ impl<'p> Model for Progress<'p> {
     ghost view = { λ r. record {
       plan = r.plan.now;
       state = state_of (frames_of_plan r.plan.now) (queues_of (works_of r.crew)) r.mill.sent r.mill.limit;
+      rounds = r.crew.rounds;
     } };
 
     ghost invariant = { λ r. IsReady (frames_of_plan r.plan.now) (works_of r.crew) r.crew.rounds r.mill.limit r.mill.sent r.next
@@ -82,6 +84,8 @@ impl<'p> Progress<'p> {
         ensures plan { result.plan ≡ plan.now }
         ensures none { seen result.state ≡ 0 }
         ensures limit { result.state.limit ≡ limit }
+        ensures cores { cores_of result ≡ length (works_of crew.entry) }
+        ensures rounds { result.rounds ≡ 0 }
     {
         plans_rise();
         let mill = Mill::new(limit);
@@ -104,6 +108,11 @@ impl<'p> Progress<'p> {
         ensures end { result ≡ false → IsEnded self.new.state }
         ensures whole { result ≡ false → self.new.state.sent ≡ all_of self.old }
         ensures sent { length self.new.state.sent ≡ seen self.old.state }
+        ensures cores { cores_of self.new ≡ cores_of self.old }
+        // One round is made where a core has to be waited for, and none else. The gates are entered for it.
+        ensures rounds { self.new.rounds ≡ rounds_after (next_in (happens self.old.state Emit)) self.old.rounds }
+        ensures gates { TellRounds G.entries (cores_of self.old) self.old.rounds self.new.rounds gates.old gates.new }
+        ensures suffice { result ≡ false → Suffice (cores_of self.old) self.new.rounds (all_of self.old) }
     {
         self.next = advance(
             rt,
@@ -157,7 +166,7 @@ fn is_packet(next: Next) -> bool
     }
 }
 
-/// A run that is ready: all its memory is taken. Contracts see it as its plan and the mill.
+/// A run that is ready: all its memory is taken. Contracts see it as its plan, the mill and the number of rounds.
 #[derive(Drop)]
 pub struct Ready<'p> {
     progress: Progress<'p>,
@@ -189,6 +198,11 @@ impl<'p> Ready<'p> {
         ensures end { result ≡ false → IsEnded self.new.state }
         ensures whole { result ≡ false → self.new.state.sent ≡ all_of self.old }
         ensures sent { length self.new.state.sent ≡ seen self.old.state }
+        ensures cores { cores_of self.new ≡ cores_of self.old }
+        // One round is made where a core has to be waited for, and none else. The gates are entered for it.
+        ensures rounds { self.new.rounds ≡ rounds_after (next_in (happens self.old.state Emit)) self.old.rounds }
+        ensures gates { TellRounds G.entries (cores_of self.old) self.old.rounds self.new.rounds gates.old gates.new }
+        ensures suffice { result ≡ false → Suffice (cores_of self.old) self.new.rounds (all_of self.old) }
     {
         self.progress.step(rt, gates)
     }
@@ -231,6 +245,9 @@ impl<'p> Ready<'p> {
         ensures plan { self.new.plan ≡ self.old.plan }
         ensures limit { self.new.state.limit ≡ self.old.state.limit }
         ensures all { OnOk result (seen self.new.state ≡ length (all_of self.old)) }
+        ensures cores { cores_of self.new ≡ cores_of self.old }
+        ensures gates { TellRounds G.entries (cores_of self.old) self.old.rounds self.new.rounds gates.old gates.new }
+        ensures suffice { OnOk result (Suffice (cores_of self.old) self.new.rounds (all_of self.old)) }
     {
         write_text(rt, &mut self.progress, &mut self.piece, base, out, gates)
     }
@@ -280,6 +297,8 @@ pub fn prepare<'p>(
     ensures all { IfOk result (λ ready. all_of ready ≡ sequence profile.now ask.now) }
     ensures none { IfOk result (λ ready. seen ready.state ≡ 0) }
     ensures limit { IfOk result (λ ready. ready.state.limit ≡ ask.now.limit) }
+    ensures cores { IfOk result (λ ready. cores_of ready ≡ ask.now.cores) }
+    ensures rounds { IfOk result (λ ready. ready.rounds ≡ 0) }
 {
     plans_rise();
     let streams = profile.len();

@@ -1,10 +1,12 @@
 ghost use Rattle.std.specs.Prelude.{◌≡◌, IfOk, IfErr, OnOk};
+ghost use Rattle.trex_crew.specs.Told.{IfTold};
 ghost use Rattle.std.specs.Io.KnownBytes.{IsAtEnd};
 ghost use Rattle.trex_io.specs.Texts.{Wrote};
 ghost use Rattle.trex_words.specs.Asked.{IsRunAsk};
 ghost use Rattle.trex_top.specs.Capture.{sequence, capture, tallies};
-ghost use Rattle.trex_top.specs.Clauses.{OnProfile};
-ghost use Rattle.trex_top.specs.Making.{Stops, Unmade};
+ghost use Rattle.trex_top.specs.Clauses.{OnProfile, WritesNothing};
+ghost use Rattle.trex_top.specs.Making.{Stops, Unmade, stop_status};
+ghost use Rattle.trex_top.specs.Rounds.{AreRounds, TellEnough};
 
 use crate::input::{ReadingStop, read_input};
 use crate::ready::prepare;
@@ -38,6 +40,9 @@ fn write_capture<R: Threads + Sync, O: Sink, G: Gate>(
     ensures made { IfOk result (λ all. Wrote O.held out.old out.new (capture profile.now ask.now)
         × (all.items ≡ tallies profile.now (sequence profile.now ask.now))) }
     ensures stops { IfErr result (Unmade O.held O.faults (capture profile.now ask.now) out.old out.new) }
+    ensures rounds { IfTold G.entries gates.old gates.new (AreRounds ask.now.cores) }
+    ensures enough { OnOk result (TellEnough G.entries ask.now.cores (sequence profile.now ask.now) gates.old gates.new) }
+    ensures untold { IfErr result (λ stop. stop ≡ Unwritten.Memory → gates.new ≡ gates.old) }
 {
     let plan = Plan::new(profile, ask.duration, ask.base);
     let Ok(mut ready) = prepare(alloc, profile, &plan, ask) else {
@@ -64,6 +69,10 @@ pub(crate) fn run<R: Threads + Sync, S: Source, O: Sink, G: Gate>(
     ensures end { OnOk result (IsAtEnd (S.left input.new)) }
     ensures stops { IfErr result (Stops S.left S.faults O.held O.faults (λ p. capture p ask.now)
         input.old input.new out.old out.new) }
+    ensures rounds { IfTold G.entries gates.old gates.new (AreRounds ask.now.cores) }
+    ensures enough { OnOk result (OnProfile (S.left input.old) (λ p.
+        TellEnough G.entries ask.now.cores (sequence p ask.now) gates.old gates.new)) }
+    ensures untold { IfErr result (λ stop. WritesNothing (stop_status stop) → gates.new ≡ gates.old) }
 {
     let profile = match read_input(alloc, input) {
         Ok(profile) => profile,

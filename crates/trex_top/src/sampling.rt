@@ -1,13 +1,15 @@
 // The sample: a line that shows what the machine makes of a profile that a seed determines.
 
-ghost use Rattle.std.specs.Prelude.{◌≡◌, ℕ, ◌+◌, ◌*◌, ◌≤◌, ◌<◌, ◌^◌, ◌++◌, List, length, OnOk, IfOk, IfErr};
+ghost use Rattle.std.specs.Prelude.{◌≡◌, ℕ, ◌+◌, ◌*◌, ◌≤◌, ◌<◌, ◌^◌, ◌++◌, List, length, OnErr, OnOk, IfOk, IfErr};
+ghost use Rattle.trex_crew.specs.Told.{IfTold};
 ghost use Rattle.trex_io.specs.Texts.{Wrote};
 ghost use Rattle.trex_pcap.specs.Writing.{record_of};
 ghost use Rattle.trex_sum.specs.Running.{running};
 ghost use Rattle.trex_words.specs.Asked.{IsSampleAsk};
-ghost use Rattle.trex_top.specs.Ready.{all_of};
+ghost use Rattle.trex_top.specs.Ready.{all_of, cores_of};
+ghost use Rattle.trex_top.specs.Rounds.{AreRounds, Suffice, TellEnough, TellRounds};
 ghost use Rattle.trex_report.specs.Texts.{line_text};
-ghost use Rattle.trex_top.specs.Sample.{Unshown, counts_of, line_of, sample_counts, sample_text};
+ghost use Rattle.trex_top.specs.Sample.{Unshown, counts_of, line_of, sample_counts, sample_sequence, sample_text};
 ghost use Rattle.trex_top.specs.Steps.{seen};
 
 use crate::ready::{Ready, prepare};
@@ -75,7 +77,9 @@ fn count_all<R: Threads + Sync, G: Gate>(
 ) -> Counts
     requires none { seen ready.old.state ≡ 0 }
     requires limit { ready.old.state.limit ≤ 100000000 }
-    ensures { result ≡ counts_of (all_of ready.old) }
+    ensures counts { result ≡ counts_of (all_of ready.old) }
+    ensures gates { TellRounds G.entries (cores_of ready.old) ready.old.rounds ready.new.rounds gates.old gates.new }
+    ensures suffice { Suffice (cores_of ready.old) ready.new.rounds (all_of ready.old) }
 {
     let mut sum = RunningSum::new();
     sum.add(&header());
@@ -102,7 +106,10 @@ fn count_sample<R: Threads + Sync, G: Gate>(
     gates: &mut [G],
 ) -> Result<Counts, Memory>
     requires { IsSampleAsk ask.now }
-    ensures { IfOk result (λ counts. counts ≡ sample_counts ask.now) }
+    ensures counts { IfOk result (λ counts. counts ≡ sample_counts ask.now) }
+    ensures rounds { IfTold G.entries gates.old gates.new (AreRounds ask.now.run.cores) }
+    ensures enough { OnOk result (TellEnough G.entries ask.now.run.cores (sample_sequence ask.now) gates.old gates.new) }
+    ensures untold { OnErr result (gates.new ≡ gates.old) }
 {
     let run = RunAsk { base: 0, ..ask.run };
     let profile = sample_profile(alloc, ask.seed, ask.streams)?;
@@ -122,6 +129,9 @@ pub fn sample<R: Threads + Sync, O: Sink, G: Gate>(
     requires { IsSampleAsk ask.now }
     ensures done { OnOk result (Wrote O.held out.old out.new (sample_text ask.now)) }
     ensures stops { IfErr result (Unshown O.held O.faults (sample_text ask.now) out.old out.new) }
+    ensures rounds { IfTold G.entries gates.old gates.new (AreRounds ask.now.run.cores) }
+    ensures enough { OnOk result (TellEnough G.entries ask.now.run.cores (sample_sequence ask.now) gates.old gates.new) }
+    ensures untold { IfErr result (λ fault. fault ≡ SampleFault.Memory → gates.new ≡ gates.old) }
 {
     let Ok(counts) = count_sample(rt, alloc, ask, gates) else {
         return Err(SampleFault::Memory);

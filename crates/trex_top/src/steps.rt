@@ -3,13 +3,14 @@
 ghost use Rattle.std.specs.Prelude.{◌≡◌, ℕ, ◌+◌, ◌-◌, ◌<◌, ◌≤◌, ◌^◌, true, false, List, map, length};
 ghost use Rattle.std.specs.List.{AllByRecursion};
 ghost use Rattle.trex_crew.specs.Crews.{works_of};
-ghost use Rattle.trex_crew.specs.Gates.{Entered};
+ghost use Rattle.trex_crew.specs.Told.{Entered};
 ghost use Rattle.trex_merge.specs.declared.next.Next.{Next as ANext};
 ghost use Rattle.trex_merge.specs.declared.next.Next.TheVariants.{Need as ANeed};
 ghost use Rattle.trex_merge.specs.Frames.{Frame, key_of};
 ghost use Rattle.trex_merge.specs.Machine.{Emit, IsMill, happens, run};
 ghost use Rattle.trex_merge.specs.Order.{ordered};
 ghost use Rattle.trex_merge.specs.Queues.{Queue, is_needy, next_of, refilled, stem};
+ghost use Rattle.trex_top.specs.Rounds.{EnteredAfter};
 ghost use Rattle.trex_top.specs.Steps.{is_packet, queues_after, round_from, rounds_after, sent_after, state_of, works_after};
 
 use std::thread::Threads;
@@ -59,6 +60,7 @@ fn go_round<R: Threads + Sync, F: Feed + Piece, G: Gate>(
     requires turns { AllByRecursion (λ work. F.turns_of work < 2 ^ 63) (works_of crew.old) }
     ensures works { works_of crew.new ≡ map F.turned (works_of crew.old) }
     ensures rounds { crew.new.rounds ≡ crew.old.rounds + 1 }
+    ensures gates { 0 < length gates.old → Entered G.entries F.core_of (works_of crew.old) crew.old.rounds gates.old gates.new }
     ensures next { result ≡ next_of (mill.now.limit - mill.now.sent) (map F.queue (works_of crew.new)) }
 {
     crew.round(rt, gates);
@@ -94,6 +96,7 @@ pub(crate) fn supply<R: Threads + Sync, F: Feed + Piece, G: Gate>(
     requires next { next ≡ next_of (mill.now.limit - mill.now.sent) (map F.queue (works_of crew.old)) }
     ensures works { works_of crew.new ≡ works_after F.turned next (works_of crew.old) }
     ensures rounds { crew.new.rounds ≡ rounds_after next crew.old.rounds }
+    ensures gates { EnteredAfter G.entries F.core_of next (works_of crew.old) crew.old.rounds gates.old gates.new }
     ensures next { result ≡ next_of (mill.now.limit - mill.now.sent) (map F.queue (works_of crew.new)) }
 {
     match next {

@@ -5,7 +5,8 @@ ghost use Rattle.trex_io.specs.Texts.{Writes, WrotePart};
 ghost use Rattle.trex_pcap.specs.Writing.{file_header};
 ghost use Rattle.trex_top.specs.Capture.{capture_text};
 ghost use Rattle.trex_top.specs.Pieces.{Gathers};
-ghost use Rattle.trex_top.specs.Ready.{all_of};
+ghost use Rattle.trex_top.specs.Ready.{all_of, cores_of};
+ghost use Rattle.trex_top.specs.Rounds.{Suffice, TellRounds};
 ghost use Rattle.trex_top.specs.Steps.{seen};
 
 use crate::pieces::{PIECE, gather};
@@ -47,6 +48,9 @@ fn gather_all<R: Threads + Sync, O: Sink, G: Gate>(
     ensures plan { progress.new.plan ≡ progress.old.plan }
     ensures limit { progress.new.state.limit ≡ progress.old.state.limit }
     ensures all { OnOk result (seen progress.new.state ≡ length (all_of progress.old)) }
+    ensures cores { cores_of progress.new ≡ cores_of progress.old }
+    ensures gates { TellRounds G.entries (cores_of progress.old) progress.old.rounds progress.new.rounds gates.old gates.new }
+    ensures suffice { OnOk result (Suffice (cores_of progress.old) progress.new.rounds (all_of progress.old)) }
     ensures capacity { PIECE ≤ vec_capacity piece.new }
 {
     let base = u64::from(base) * NANOSECONDS_PER_SECOND;
@@ -75,6 +79,9 @@ pub(crate) fn write_text<R: Threads + Sync, O: Sink, G: Gate>(
     ensures plan { progress.new.plan ≡ progress.old.plan }
     ensures limit { progress.new.state.limit ≡ progress.old.state.limit }
     ensures all { OnOk result (seen progress.new.state ≡ length (all_of progress.old)) }
+    ensures cores { cores_of progress.new ≡ cores_of progress.old }
+    ensures gates { TellRounds G.entries (cores_of progress.old) progress.old.rounds progress.new.rounds gates.old gates.new }
+    ensures suffice { OnOk result (Suffice (cores_of progress.old) progress.new.rounds (all_of progress.old)) }
     ensures capacity { PIECE ≤ vec_capacity piece.new }
 {
     begin(piece);
@@ -85,7 +92,7 @@ pub(crate) fn write_text<R: Threads + Sync, O: Sink, G: Gate>(
 }
 
 /// Writes the capture of a run of which no step was taken: at `Ok` the whole, and then the run stands at its end. The times of the records
-/// count from the base, in seconds since 1970. No memory is taken.
+/// count from the base, in seconds since 1970. No memory is taken. The gates are entered once for each core in each round.
 pub fn generate<R: Threads + Sync, O: Sink, G: Gate>(
     rt: &R,
     ready: &mut Ready<'_>,
@@ -100,6 +107,9 @@ pub fn generate<R: Threads + Sync, O: Sink, G: Gate>(
     ensures plan { ready.new.plan ≡ ready.old.plan }
     ensures limit { ready.new.state.limit ≡ ready.old.state.limit }
     ensures all { OnOk result (seen ready.new.state ≡ length (all_of ready.old)) }
+    ensures cores { cores_of ready.new ≡ cores_of ready.old }
+    ensures gates { TellRounds G.entries (cores_of ready.old) ready.old.rounds ready.new.rounds gates.old gates.new }
+    ensures suffice { OnOk result (Suffice (cores_of ready.old) ready.new.rounds (all_of ready.old)) }
 {
     ready.write(rt, base, out, gates)
 }

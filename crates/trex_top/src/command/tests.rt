@@ -3,7 +3,7 @@ use std::alloc::Global;
 use std::process::Abort;
 use std::test::Fail;
 use std::thread::Threads;
-use trex_crew::Open;
+use trex_crew::{Gate, Open};
 use trex_io::{MemSink, MemSource};
 use trex_pcap::{header, record_header};
 
@@ -75,31 +75,28 @@ fn capture(alloc: Global, sent: &[(u32, u8)]) -> Result<Vec<u8>, Fail> {
     Ok(bytes)
 }
 
-/// Runs over memory, at most ten bytes a call.
-fn run<R: Threads + Sync>(
-    rt: &R,
-    alloc: Global,
-    line: &str,
-    text: &str,
-    failing: Failing,
-) -> Result<Ran, Fail> {
-    run_over(rt, alloc, line, text.as_bytes(), 10, ROOM, failing)
+/// How the streams of a run take bytes: so many a call, and so much room for output.
+#[derive(Clone, Copy)]
+struct Ends {
+    step: usize,
+    room: usize,
 }
 
-/// Runs over memory: so many bytes a call, and so many bytes of output.
-fn run_over<R: Threads + Sync>(
+/// Runs over memory, with these gates.
+fn run_over<R: Threads + Sync, G: Gate>(
     rt: &R,
     alloc: Global,
     line: &str,
     bytes: &[u8],
-    step: usize,
-    room: usize,
+    ends: Ends,
     failing: Failing,
+    gates: &mut [G],
 ) -> Result<Ran, Fail> {
     let mut words = Vec::new(alloc);
     for word in line.split_ascii_whitespace() {
         words.push(String::from_str(alloc, word)?)?;
     }
+    let Ends { step, room } = ends;
     let bytes = Vec::from_slice(alloc, bytes)?;
     let mut input = MemSource::new(bytes, step, Vec::from_slice(alloc, &[failing.input])?);
     let mut out = MemSink::new(alloc, room, step, Vec::from_slice(alloc, &[failing.out])?)?;
@@ -109,11 +106,35 @@ fn run_over<R: Threads + Sync>(
         step,
         Vec::from_slice(alloc, &[failing.notes])?,
     )?;
-    let mut gates = [Open; 2];
-    let status = trex_main(
-        rt, alloc, &words, &mut input, &mut out, &mut notes, &mut gates,
-    );
+    let status = trex_main(rt, alloc, &words, &mut input, &mut out, &mut notes, gates);
     Ok(Ran { status, out, notes })
+}
+
+/// Runs over memory, at most ten bytes a call, with these gates.
+fn run_with<R: Threads + Sync, G: Gate>(
+    rt: &R,
+    alloc: Global,
+    line: &str,
+    text: &str,
+    failing: Failing,
+    gates: &mut [G],
+) -> Result<Ran, Fail> {
+    let ends = Ends {
+        step: 10,
+        room: ROOM,
+    };
+    run_over(rt, alloc, line, text.as_bytes(), ends, failing, gates)
+}
+
+/// The same with two gates that are always open.
+fn run<R: Threads + Sync>(
+    rt: &R,
+    alloc: Global,
+    line: &str,
+    text: &str,
+    failing: Failing,
+) -> Result<Ran, Fail> {
+    run_with(rt, alloc, line, text, failing, &mut [Open; 2])
 }
 
 /// Looks at what a run left.
@@ -452,5 +473,6 @@ fn cycles_of_three_and_bursts_without_end(rt: HostRuntime) -> Result<(), Fail> {
     assert_sent(&rt, alloc, "run --limit 1", &endless, &[(0, 1)])
 }
 
+mod gates;
 mod hostile;
 mod packets;

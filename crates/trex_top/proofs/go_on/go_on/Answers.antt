@@ -1,12 +1,14 @@
-use Rattle.std.proofs.Common.{◌≡◌, ◌+◌, ◌-◌, ◌<◌, ◌≤◌, ◌^◌, ap, sym, ◌∙◌, arith}
+use Rattle.std.proofs.Common.{◌≡◌, ◌+◌, ◌-◌, ◌<◌, ◌≤◌, ◌^◌, length, ap, sym, subst, ◌∙◌, arith}
 use Rattle.trex_core.specs.Plan.{frames_of_plan}
-use Rattle.trex_core.specs.Works.{added}
+use Rattle.trex_core.specs.Works.{Work, added}
 use Rattle.trex_crew.specs.Crews.{works_of}
 use Rattle.trex_merge.specs.declared.next.Next.{Next}
 use Rattle.trex_merge.specs.Queues.{next_of}
 use Rattle.trex_top.specs.Ready.{queues_of}
+use Rattle.trex_top.specs.Rounds.{TellRounds}
 use Rattle.trex_top.specs.Steps.{rounds_after, state_of, stepped}
 use Rattle.trex_top.proofs.Readying.{after_emit, gone, sent_after_is, sent_within, turns_below}
+use Rattle.trex_top.proofs.Telling.{tell_after}
 use Rattle.trex_top.proofs.go_on.go_on.Goals as goal
 
 pub supply-requires-clause-turns : goal.supply-requires-clause-turns
@@ -69,3 +71,54 @@ returns-clause-served g c =
     c.args.next c.emit-then.result c.supply.result c.requires.ready
     emit.queues emit.marks emit.sent after supply.works rounds next in
     all.served
+
+pub returns-clause-cores : goal.returns-clause-cores
+returns-clause-cores g c =
+    let frames = frames_of_plan c.args.plan.now in
+    let emit = c.emit-then.ensures in
+    let supply = c.supply.ensures in
+    let after : c.emit-then.result ≡ next_of (c.args.mill.now.limit - c.emit-then.new.mill.sent) (queues_of (works_of c.emit-then.new.crew)) =
+    rw emit.limit at emit.next in
+    let next : c.supply.result ≡ next_of (c.args.mill.now.limit - c.emit-then.new.mill.sent) (queues_of (works_of c.supply.new.crew)) =
+    rw emit.limit at supply.next in
+    let rounds = supply.rounds ∙ ap (rounds_after c.emit-then.result) emit.rounds in
+    let all = gone frames (works_of c.args.crew.now) (works_of c.emit-then.new.crew) (works_of c.supply.new.crew)
+    c.args.crew.now.rounds c.supply.new.crew.rounds c.args.mill.now.limit c.args.mill.now.sent c.emit-then.new.mill.sent
+    c.args.next c.emit-then.result c.supply.result c.requires.ready
+    emit.queues emit.marks emit.sent after supply.works rounds next in
+    all.cores
+
+pub returns-clause-rounds : goal.returns-clause-rounds
+returns-clause-rounds g c =
+    let frames = frames_of_plan c.args.plan.now in
+    let emit = c.emit-then.ensures in
+    let supply = c.supply.ensures in
+    let after : c.emit-then.result ≡ next_of (c.args.mill.now.limit - c.emit-then.new.mill.sent) (queues_of (works_of c.emit-then.new.crew)) =
+    rw emit.limit at emit.next in
+    let next : c.supply.result ≡ next_of (c.args.mill.now.limit - c.emit-then.new.mill.sent) (queues_of (works_of c.supply.new.crew)) =
+    rw emit.limit at supply.next in
+    let rounds = supply.rounds ∙ ap (rounds_after c.emit-then.result) emit.rounds in
+    let all = gone frames (works_of c.args.crew.now) (works_of c.emit-then.new.crew) (works_of c.supply.new.crew)
+    c.args.crew.now.rounds c.supply.new.crew.rounds c.args.mill.now.limit c.args.mill.now.sent c.emit-then.new.mill.sent
+    c.args.next c.emit-then.result c.supply.result c.requires.ready
+    emit.queues emit.marks emit.sent after supply.works rounds next in
+    rounds ∙ ap (λ (n : Next). rounds_after n c.args.crew.now.rounds) (sym all.then_is)
+
+pub returns-clause-gates : goal.returns-clause-gates
+returns-clause-gates g c =
+    let frames = frames_of_plan c.args.plan.now in
+    let emit = c.emit-then.ensures in
+    let supply = c.supply.ensures in
+    let after : c.emit-then.result ≡ next_of (c.args.mill.now.limit - c.emit-then.new.mill.sent) (queues_of (works_of c.emit-then.new.crew)) =
+    rw emit.limit at emit.next in
+    let next : c.supply.result ≡ next_of (c.args.mill.now.limit - c.emit-then.new.mill.sent) (queues_of (works_of c.supply.new.crew)) =
+    rw emit.limit at supply.next in
+    let rounds = supply.rounds ∙ ap (rounds_after c.emit-then.result) emit.rounds in
+    let all = gone frames (works_of c.args.crew.now) (works_of c.emit-then.new.crew) (works_of c.supply.new.crew)
+    c.args.crew.now.rounds c.supply.new.crew.rounds c.args.mill.now.limit c.args.mill.now.sent c.emit-then.new.mill.sent
+    c.args.next c.emit-then.result c.supply.result c.requires.ready
+    emit.queues emit.marks emit.sent after supply.works rounds next in
+    let cores = length (works_of c.args.crew.now) in
+    subst (λ n. TellRounds g.G.Gate.entries cores c.args.crew.now.rounds n c.args.gates.now c.supply.new.gates) (sym rounds)
+    (subst (λ n. TellRounds g.G.Gate.entries cores n (rounds_after c.emit-then.result n) c.args.gates.now c.supply.new.gates) emit.rounds
+    (tell_after g.G.Gate.entries cores (λ (w : Work). w.core) c.emit-then.result (works_of c.emit-then.new.crew) c.emit-then.new.crew.rounds c.args.gates.now c.supply.new.gates all.order supply.gates))

@@ -35,3 +35,7 @@ returns-clause-all c =
     ∙ ap (λ (p : PlanOf). sequence c.args.ask.now.limit (frames_of_plan p)) start.plan
     ∙ sequence_is c.args.plan.now c.args.ask.now (c.plans_rise.ensures.rising c.args.plan.now kept) (c.plans_rise.ensures.distinct c.args.plan.now kept) same
     ∙ ap (λ (p : List Stream). run_sequence p c.args.ask.now) profile
+
+pub returns-clause-cores : goal.returns-clause-cores
+returns-clause-cores c =
+    c.start-progress.ensures.cores ∙ ap length c.in_ok-crew.ensures.works ∙ works_count c.args.ask.now.cores (frames_of_plan c.args.plan.now)

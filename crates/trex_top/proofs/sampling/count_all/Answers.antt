@@ -5,10 +5,12 @@ use Rattle.trex_sum.specs.declared.running.RunningSum.{RunningSum}
 use Rattle.trex_sum.specs.Checksum.{fold_of}
 use Rattle.trex_sum.specs.Running.{running}
 use Rattle.trex_top.specs.Capture.{capture_text}
-use Rattle.trex_top.specs.Ready.{all_of}
+use Rattle.trex_top.specs.Ready.{all_of, cores_of}
+use Rattle.trex_top.specs.Rounds.{Suffice}
 use Rattle.trex_top.specs.Steps.{seen}
 use Rattle.trex_top.proofs.Counted.{all-limited, summed-more, bytes-more, counted-all}
 use Rattle.trex_top.proofs.Readying.{all_same, found_next, seen_more}
+use Rattle.trex_top.proofs.Telling.{tell_nothing, tell_on}
 use Rattle.trex_top.proofs.sampling.count_all.Goals as goal
 
 pub packets-smaller : goal.packets-smaller
@@ -51,13 +53,28 @@ packets-preserved g c =
       packets = omega (arith, more, packets);
       bytes = ap (λ b. b + length frame.bytes) c.packets.invariant.bytes ∙ bytes-more all k n frame found more;
       small = omega (arith, more, short, small);
+      cores = c.step.ensures.cores ∙ c.packets.invariant.cores;
+      told = tell_on g.G.Gate.entries (cores_of c.args.ready.now) (cores_of c.packets.ready) c.args.ready.now.rounds c.packets.ready.rounds c.step.new.self.rounds
+          c.args.gates.now c.packets.gates c.step.new.gates c.packets.invariant.cores c.packets.auto.gates c.packets.invariant.told c.step.ensures.gates;
     }
 
-pub returns : goal.returns
-returns g c =
+pub returns-clause-counts : goal.returns-clause-counts
+returns-clause-counts g c =
     let all = all_of c.args.ready.now in
     let k = seen c.packets.ready.state in
     let same = all_same c.packets.ready c.args.ready.now c.packets.invariant.plan c.packets.invariant.limit in
     let done : k ≡ length all = sym c.step.ensures.sent ∙ ap length (c.step.ensures.whole c.packets-test.false ∙ same) in
     counted-all all k c.packets.packets c.packets.bytes c.fold.result done c.packets.invariant.packets c.packets.invariant.bytes
     (c.fold.ensures ∙ ap fold_of (c.sum.ensures ∙ ap (λ (s : RunningSum). s.sum) c.packets.invariant.summed))
+
+pub returns-clause-gates : goal.returns-clause-gates
+returns-clause-gates g c =
+    tell_on g.G.Gate.entries (cores_of c.args.ready.now) (cores_of c.packets.ready) c.args.ready.now.rounds c.packets.ready.rounds c.step.new.self.rounds
+    c.args.gates.now c.packets.gates c.step.new.gates c.packets.invariant.cores c.packets.auto.gates c.packets.invariant.told c.step.ensures.gates
+
+pub returns-clause-suffice : goal.returns-clause-suffice
+returns-clause-suffice g c =
+    let old = c.packets.ready in
+    let same = all_same old c.args.ready.now c.packets.invariant.plan c.packets.invariant.limit in
+    subst (λ n. Suffice n c.step.new.self.rounds (all_of c.args.ready.now)) c.packets.invariant.cores
+    (subst (Suffice (cores_of old) c.step.new.self.rounds) same (c.step.ensures.suffice c.packets-test.false))

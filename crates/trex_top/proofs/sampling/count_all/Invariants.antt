@@ -2,7 +2,8 @@ use Rattle.std.proofs.Common.{◌≡◌, ◌+◌, ◌-◌, ◌*◌, ◌≤◌, l
 use Rattle.trex_merge.specs.Frames.{Frame}
 use Rattle.trex_sum.specs.Running.{running}
 use Rattle.trex_top.specs.Capture.{capture_text}
-use Rattle.trex_top.specs.Ready.{all_of}
+use Rattle.trex_top.specs.Ready.{all_of, cores_of}
+use Rattle.trex_top.specs.Rounds.{TellRounds}
 use Rattle.trex_top.specs.Steps.{seen}
 use Rattle.trex_top.proofs.sampling.count_all.Given as goal
 
@@ -16,6 +17,8 @@ invariant-packets g l = record {
   packets : l.packets ≡ seen l.ready.state;
   bytes : l.bytes ≡ sum_by (λ (frame : Frame). length frame.bytes) (take (seen l.ready.state) (all_of l.initial.ready));
   small : l.bytes ≤ 9216 * seen l.ready.state;
+  cores : cores_of l.ready ≡ cores_of l.initial.ready;
+  told : TellRounds g.G.Gate.entries (cores_of l.initial.ready) l.initial.ready.rounds l.ready.rounds l.initial.gates l.gates;
 }
 
 abbrev pub decreases-packets : goal.decreases-packets

@@ -1,4 +1,4 @@
-use Rattle.std.proofs.Common.{◌≡◌, ℕ, ◌+◌, ◌*◌, ◌-◌, ◌<◌, ◌≤◌, ◌^◌, true, false, List, [], ◌∷◌, ◌++◌, length, map, take, drop, slice_get, Some, refl, sym, ap, ◌∙◌, subst, arith, append-nil, length-drop}
+use Rattle.std.proofs.Common.{◌≡◌, ℕ, ◌+◌, ◌*◌, ◌-◌, ◌<◌, ◌≤◌, ◌^◌, true, false, List, [], ◌∷◌, ◌++◌, length, map, take, drop, slice_get, Some, refl, sym, ap, ◌∙◌, subst, arith, append-nil, length-drop, rules}
 use Rattle.std.proofs.Math.Seq.{take-length}
 use Rattle.std.proofs.KnownBytes.{Appends-nil}
 use Rattle.std.proofs.lemmas.Option.{slice_get_within}
@@ -7,11 +7,13 @@ use Rattle.trex_pcap.specs.Writing.{file_header, record_of, capture_of}
 use Rattle.trex_merge.specs.Frames.{Frame, frame_of}
 use Rattle.trex_top.specs.Capture.{capture_text, packet_at}
 use Rattle.trex_top.specs.Pieces.{Gathers}
-use Rattle.trex_top.specs.Ready.{Stand, all_of}
+use Rattle.trex_top.specs.Ready.{Stand, all_of, cores_of}
+use Rattle.trex_top.specs.Rounds.{Suffice}
 use Rattle.trex_top.specs.Steps.{seen}
 use Rattle.trex_top.proofs.Gathering.{Gathers-more, Gathers-part, capture_of-more, capture_of-front}
 use Rattle.trex_top.proofs.Readying.{all_same, found_next, seen_more}
 use Rattle.trex_top.proofs.Schedule.{take-next}
+use Rattle.trex_top.proofs.Telling.{tell_nothing, tell_on}
 use Rattle.trex_top.proofs.writing.gather_all.Goals as goal
 
 pub overflow_add-base : goal.overflow_add-base
@@ -80,5 +82,37 @@ packets-preserved g c =
       gathered = subst (λ (t : List ℕ). Gathers g.O.Sink.held c.args.out.now c.gather.new.out c.gather.new.piece.items t) (ap (λ r. text ++ r) record_same ∙ goes) gathered;
       within = omega (arith, more, left, long);
       capacity = c.gather.ensures.capacity;
+      cores = c.step.ensures.cores ∙ c.packets.invariant.cores;
+      told = tell_on g.G.Gate.entries (cores_of c.args.progress.now) (cores_of c.packets.progress) c.args.progress.now.rounds c.packets.progress.rounds c.step.new.self.rounds
+          c.args.gates.now c.packets.gates c.step.new.gates c.packets.invariant.cores c.packets.auto.gates c.packets.invariant.told c.step.ensures.gates;
       faults = let a = c.packets.invariant.faults in let b = c.in_default.ensures.cause.later in omega arith;
     }
+
+pub packets-init : goal.packets-init
+packets-init g c = record {
+  plan = refl;
+  limit = refl;
+  gathered = search rules;
+  within = search rules;
+  capacity = c.requires.capacity;
+  cores = refl;
+  told = tell_nothing g.G.Gate.entries (cores_of c.args.progress.now) c.args.progress.now.rounds c.args.gates.now;
+  faults = omega arith;
+}
+
+pub returns-in-Err-clause-gates : goal.returns-in-Err-clause-gates
+returns-in-Err-clause-gates g c =
+    tell_on g.G.Gate.entries (cores_of c.args.progress.now) (cores_of c.packets.progress) c.args.progress.now.rounds c.packets.progress.rounds c.step.new.self.rounds
+    c.args.gates.now c.packets.gates c.step.new.gates c.packets.invariant.cores c.packets.auto.gates c.packets.invariant.told c.step.ensures.gates
+
+pub returns-clause-gates : goal.returns-clause-gates
+returns-clause-gates g c =
+    tell_on g.G.Gate.entries (cores_of c.args.progress.now) (cores_of c.packets.progress) c.args.progress.now.rounds c.packets.progress.rounds c.step.new.self.rounds
+    c.args.gates.now c.packets.gates c.step.new.gates c.packets.invariant.cores c.packets.auto.gates c.packets.invariant.told c.step.ensures.gates
+
+pub returns-clause-suffice : goal.returns-clause-suffice
+returns-clause-suffice g c =
+    let old = c.packets.progress in
+    let same = all_same old c.args.progress.now c.packets.invariant.plan c.packets.invariant.limit in
+    subst (λ n. Suffice n c.step.new.self.rounds (all_of c.args.progress.now)) c.packets.invariant.cores
+    (subst (Suffice (cores_of old) c.step.new.self.rounds) same (c.step.ensures.suffice c.packets-test.false))

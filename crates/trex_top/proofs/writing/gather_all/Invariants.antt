@@ -3,7 +3,8 @@ use Rattle.std.specs.Vec.{vec_capacity}
 use Rattle.trex_top.specs.declared.pieces.TheConstants.{PIECE}
 use Rattle.trex_top.specs.Capture.{capture_text}
 use Rattle.trex_top.specs.Pieces.{Gathers}
-use Rattle.trex_top.specs.Ready.{all_of, gone_to}
+use Rattle.trex_top.specs.Ready.{all_of, cores_of}
+use Rattle.trex_top.specs.Rounds.{TellRounds}
 use Rattle.trex_top.specs.Steps.{seen}
 use Rattle.trex_top.proofs.writing.gather_all.Given as goal
 
@@ -14,6 +15,8 @@ invariant-packets g l = record {
   gathered : Gathers g.O.Sink.held l.initial.out l.out l.piece.items (capture_text l.fn.base (take (seen l.progress.state) (all_of l.initial.progress)));
   within : seen l.progress.state ≤ length (all_of l.initial.progress);
   capacity : PIECE ≤ vec_capacity l.piece;
+  cores : cores_of l.progress ≡ cores_of l.initial.progress;
+  told : TellRounds g.G.Gate.entries (cores_of l.initial.progress) l.initial.progress.rounds l.progress.rounds l.initial.gates l.gates;
   faults : g.O.Sink.faults l.initial.out ≤ g.O.Sink.faults l.out;
 }
 

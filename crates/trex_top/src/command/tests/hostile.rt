@@ -1,11 +1,12 @@
 // Reads and writes that fail, and profiles that are made to do harm.
 
-use super::{CAPTURE, Failing, NONE, REPORT, assert_left, burst, run_over};
+use super::{CAPTURE, Ends, Failing, NONE, REPORT, Ran, assert_left, burst, run_over};
 use crate::Status;
 use std::alloc::Global;
 use std::process::Abort;
 use std::test::Fail;
 use std::thread::Threads;
+use trex_crew::Open;
 use trex_pcap::{header, record_header};
 
 /// How many bytes the captures here may have.
@@ -13,6 +14,22 @@ const SMALL_ROOM: usize = 20_000;
 
 /// How many bytes a profile's text may have.
 const LONGEST: usize = 33_554_432;
+
+/// Runs over memory, so many bytes a call.
+fn run<R: Threads + Sync>(
+    rt: &R,
+    alloc: Global,
+    line: &str,
+    text: &str,
+    step: usize,
+    failing: Failing,
+) -> Result<Ran, Fail> {
+    let ends = Ends {
+        step,
+        room: SMALL_ROOM,
+    };
+    run_over(rt, alloc, line, text.as_bytes(), ends, failing, &mut [Open; 2])
+}
 
 /// Text, so many times over.
 fn repeated(alloc: Global, text: &str, count: usize) -> Result<String, Fail> {
@@ -27,13 +44,13 @@ fn repeated(alloc: Global, text: &str, count: usize) -> Result<String, Fail> {
 fn each_write_of_a_run_that_fails_leaves_what_stood_before(rt: HostRuntime) -> Result<(), Fail> {
     let alloc = rt.alloc();
     let thirds = burst(alloc, 3, "pps", "3")?;
-    let text = thirds.as_bytes();
+    let text = thirds.as_str();
     for call in 1..=CAPTURE.len() {
         let failing = Failing {
             out: call as u64,
             ..NONE
         };
-        let ran = run_over(&rt, alloc, "run", text, 1, SMALL_ROOM, failing)?;
+        let ran = run(&rt, alloc, "run", text, 1, failing)?;
         assert_left(
             &rt,
             &ran,
@@ -47,7 +64,7 @@ fn each_write_of_a_run_that_fails_leaves_what_stood_before(rt: HostRuntime) -> R
             notes: call as u64,
             ..NONE
         };
-        let ran = run_over(&rt, alloc, "run", text, 1, SMALL_ROOM, failing)?;
+        let ran = run(&rt, alloc, "run", text, 1, failing)?;
         assert_left(
             &rt,
             &ran,
@@ -56,7 +73,11 @@ fn each_write_of_a_run_that_fails_leaves_what_stood_before(rt: HostRuntime) -> R
             &REPORT[..call - 1],
         );
     }
-    let full = run_over(&rt, alloc, "run", text, 1, 113, NONE)?;
+    let ends = Ends {
+        step: 1,
+        room: 113,
+    };
+    let full = run_over(&rt, alloc, "run", text.as_bytes(), ends, NONE, &mut [Open; 2])?;
     assert_left(
         &rt,
         &full,
@@ -77,15 +98,7 @@ fn each_write_of_a_check_that_fails_leaves_what_stood_before(rt: HostRuntime) ->
             out: call as u64,
             ..NONE
         };
-        let ran = run_over(
-            &rt,
-            alloc,
-            "check",
-            thirds.as_bytes(),
-            1,
-            SMALL_ROOM,
-            failing,
-        )?;
+        let ran = run(&rt, alloc, "check", thirds.as_str(), 1, failing)?;
         assert_left(
             &rt,
             &ran,
@@ -107,15 +120,7 @@ fn each_read_that_fails_is_told(rt: HostRuntime) -> Result<(), Fail> {
                 input: call as u64,
                 ..NONE
             };
-            let ran = run_over(
-                &rt,
-                alloc,
-                command,
-                thirds.as_bytes(),
-                1,
-                SMALL_ROOM,
-                failing,
-            )?;
+            let ran = run(&rt, alloc, command, thirds.as_str(), 1, failing)?;
             assert_left(&rt, &ran, Status::ReadFault, b"", b"read fault\n");
         }
     }
@@ -129,15 +134,7 @@ fn assert_check<R: Abort + Threads + Sync>(
     text: &str,
     said: &str,
 ) -> Result<(), Fail> {
-    let ran = run_over(
-        rt,
-        alloc,
-        "check",
-        text.as_bytes(),
-        LONGEST,
-        SMALL_ROOM,
-        NONE,
-    )?;
+    let ran = run(rt, alloc, "check", text, LONGEST, NONE)?;
     if ran.status == Status::Done {
         assert_left(rt, &ran, Status::Done, said.as_bytes(), b"");
     } else {
@@ -217,7 +214,7 @@ fn the_slowest_rate_sends_one_packet(rt: HostRuntime) -> Result<(), Fail> {
         r#"[{{"stream_id":1,"stream":{{"packet":{{"binary":"{zeros}"}},"mode":{{"type":"multi_burst","pkts_per_burst":4294967295,"count":4294967295,"rate":{{"type":"bps_L2","value":0.000001}}}}}}}}]"#
     )?;
     let line = "run --duration 1000000000000000000";
-    let ran = run_over(&rt, alloc, line, text.as_bytes(), LONGEST, SMALL_ROOM, NONE)?;
+    let ran = run(&rt, alloc, line, text.as_str(), LONGEST, NONE)?;
     let mut sent = Vec::from_slice(alloc, &header())?;
     sent.extend_from_slice(&record_header(0, 9_216))?;
     sent.extend_from_slice(&[0; 9_216])?;

@@ -340,29 +340,6 @@ fn the_first_broken_rule_of_an_instruction_is_told(rt: HostRuntime) -> Result<()
 }
 
 #[test]
-fn many_batches_are_one_sequence(rt: HostRuntime) -> Result<(), Fail> {
-    let alloc = rt.alloc();
-    let endless = super::profile(
-        alloc,
-        r#""type":"continuous","rate":{"type":"pps","value":1000000000}"#,
-    )?;
-    let ran = run(
-        &rt,
-        alloc,
-        "run --cores 3 --limit 20000",
-        endless.as_str(),
-        NONE,
-    )?;
-    assert_eq!(rt; ran.status, Status::Done);
-    assert_eq!(rt; ran.out.bytes().len(), 600_024);
-    assert_eq!(rt;
-        ran.out.bytes().get(599_994..600_010),
-        Some(record_header(19_999, 14).as_slice())
-    );
-    Ok(())
-}
-
-#[test]
 fn the_longest_packets_fill_batches_by_their_bytes(rt: HostRuntime) -> Result<(), Fail> {
     let alloc = rt.alloc();
     let mut binary = String::from_str(alloc, "[0")?;
