@@ -1,3 +1,5 @@
+ghost use Rattle.std.specs.Prelude.{◌≤◌};
+
 use crate::{Status, trex_main};
 use std::alloc::Global;
 use std::process::Abort;
@@ -83,12 +85,27 @@ fn run<R: Threads + Sync>(
     text: &str,
     failing: Failing,
 ) -> Result<Ran, Fail> {
+    feed(rt, alloc, line, text.as_bytes(), 10, failing)
+}
+
+/// Runs over memory, at most so many bytes of the input a call.
+fn feed<R: Threads + Sync>(
+    rt: &R,
+    alloc: Global,
+    line: &str,
+    bytes: &[u8],
+    per_call: usize,
+    failing: Failing,
+) -> Result<Ran, Fail>
+    requires { 1 ≤ per_call }
+{
     let mut words = Vec::new(alloc);
     for word in line.split_ascii_whitespace() {
         words.push(String::from_str(alloc, word)?)?;
     }
-    let text = Vec::from_slice(alloc, text.as_bytes())?;
-    let mut input = MemSource::new(text, 10, Vec::from_slice(alloc, &[failing.input])?);
+    let bytes = Vec::from_slice(alloc, bytes)?;
+    let failing_reads = Vec::from_slice(alloc, &[failing.input])?;
+    let mut input = MemSource::new(bytes, per_call, failing_reads);
     let mut out = MemSink::new(alloc, ROOM, 10, Vec::from_slice(alloc, &[failing.out])?)?;
     let mut notes = MemSink::new(alloc, 1_000, 10, Vec::from_slice(alloc, &[failing.notes])?)?;
     let mut gates = [Open; 2];
@@ -213,6 +230,7 @@ fn words_without_a_meaning_are_told(rt: HostRuntime) -> Result<(), Fail> {
         ("run --base x", "usage: BadNumber at 2\n"),
         ("run --base 1 --base 1", "usage: Repeated at 3\n"),
         ("check x", "usage: UnknownOption at 1\n"),
+        ("sample", "usage: Missing option --seed\n"),
     ];
     for (words, line) in lines {
         let ran = run(&rt, rt.alloc(), words, "[]", NONE)?;
@@ -434,4 +452,5 @@ fn cycles_of_three_and_bursts_without_end(rt: HostRuntime) -> Result<(), Fail> {
     assert_sent(&rt, alloc, "run --limit 1", &endless, &[(0, 1)])
 }
 
+mod captures;
 mod packets;
