@@ -2,7 +2,7 @@
 #![tactic(auto)]
 
 use std::env;
-use std::io::ErrorKind;
+use std::io::{BufReader, ErrorKind};
 use std::process::ExitCode;
 use trex_crew::Open;
 use trex_io::{StdSink, StdSource, write_all};
@@ -10,6 +10,9 @@ use trex_top::{Status, trex_main};
 
 /// The most threads that the cores of a run work in.
 const WORKERS: usize = 8;
+
+/// How many bytes of standard input are read at once.
+const READ_AHEAD: usize = 65_536;
 
 fn main(rt: HostRuntime) -> ExitCode {
     let mut notes = StdSink::new(rt.stderr());
@@ -30,7 +33,10 @@ fn main(rt: HostRuntime) -> ExitCode {
             return ended(Status::Usage);
         }
     }
-    let mut input = StdSource::new(rt.stdin());
+    let Ok(stdin) = BufReader::with_capacity(rt.alloc(), READ_AHEAD, rt.stdin()) else {
+        return ended(Status::Memory);
+    };
+    let mut input = StdSource::new(stdin);
     let mut out = StdSink::new(rt.stdout());
     let mut gates = [Open; WORKERS];
     let status = trex_main(

@@ -29,12 +29,8 @@ pub(crate) fn check<S: Source, O: Sink>(
         Err(ReadingStop::ReadFault) => return Err(Stop::ReadFault),
         Err(ReadingStop::Memory) => return Err(Stop::Memory),
     };
-    match write_line(
-        out,
-        Line::Accepted {
-            streams: profile.len() as u64,
-        },
-    ) {
+    let streams = profile.len() as u64;
+    match write_line(out, Line::Accepted { streams }) {
         Ok(()) => Ok(()),
         Err(_) => Err(Stop::OutFault),
     }

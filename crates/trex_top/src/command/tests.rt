@@ -1,3 +1,5 @@
+ghost use Rattle.std.specs.Prelude.{◌≤◌};
+
 use crate::{Status, trex_main};
 use std::alloc::Global;
 use std::process::Abort;
@@ -75,10 +77,11 @@ fn capture(alloc: Global, sent: &[(u32, u8)]) -> Result<Vec<u8>, Fail> {
     Ok(bytes)
 }
 
-/// How the streams of a run take bytes: so many a call, and so much room for output.
+/// The most bytes of a read and of a write, and of the output.
 #[derive(Clone, Copy)]
 struct Ends {
-    step: usize,
+    read: usize,
+    written: usize,
     room: usize,
 }
 
@@ -91,19 +94,26 @@ fn run_over<R: Threads + Sync, G: Gate>(
     ends: Ends,
     failing: Failing,
     gates: &mut [G],
-) -> Result<Ran, Fail> {
+) -> Result<Ran, Fail>
+    requires read { 1 ≤ ends.read }
+    requires written { 1 ≤ ends.written }
+{
     let mut words = Vec::new(alloc);
     for word in line.split_ascii_whitespace() {
         words.push(String::from_str(alloc, word)?)?;
     }
-    let Ends { step, room } = ends;
+    let Ends {
+        read,
+        written,
+        room,
+    } = ends;
     let bytes = Vec::from_slice(alloc, bytes)?;
-    let mut input = MemSource::new(bytes, step, Vec::from_slice(alloc, &[failing.input])?);
-    let mut out = MemSink::new(alloc, room, step, Vec::from_slice(alloc, &[failing.out])?)?;
+    let mut input = MemSource::new(bytes, read, Vec::from_slice(alloc, &[failing.input])?);
+    let mut out = MemSink::new(alloc, room, written, Vec::from_slice(alloc, &[failing.out])?)?;
     let mut notes = MemSink::new(
         alloc,
         1_000,
-        step,
+        written,
         Vec::from_slice(alloc, &[failing.notes])?,
     )?;
     let status = trex_main(rt, alloc, &words, &mut input, &mut out, &mut notes, gates);
@@ -120,7 +130,8 @@ fn run_with<R: Threads + Sync, G: Gate>(
     gates: &mut [G],
 ) -> Result<Ran, Fail> {
     let ends = Ends {
-        step: 10,
+        read: 10,
+        written: 10,
         room: ROOM,
     };
     run_over(rt, alloc, line, text.as_bytes(), ends, failing, gates)
@@ -135,6 +146,25 @@ fn run<R: Threads + Sync>(
     failing: Failing,
 ) -> Result<Ran, Fail> {
     run_with(rt, alloc, line, text, failing, &mut [Open; 2])
+}
+
+/// The same of other bytes, at most so many of the input a call.
+fn feed<R: Threads + Sync>(
+    rt: &R,
+    alloc: Global,
+    line: &str,
+    bytes: &[u8],
+    per_call: usize,
+    failing: Failing,
+) -> Result<Ran, Fail>
+    requires { 1 ≤ per_call }
+{
+    let ends = Ends {
+        read: per_call,
+        written: 10,
+        room: ROOM,
+    };
+    run_over(rt, alloc, line, bytes, ends, failing, &mut [Open; 2])
 }
 
 /// Looks at what a run left.
@@ -252,6 +282,7 @@ fn words_without_a_meaning_are_told(rt: HostRuntime) -> Result<(), Fail> {
         ("run --base x", "usage: BadNumber at 2\n"),
         ("run --base 1 --base 1", "usage: Repeated at 3\n"),
         ("check x", "usage: UnknownOption at 1\n"),
+        ("sample", "usage: Missing option --seed\n"),
     ];
     for (words, line) in lines {
         let ran = run(&rt, rt.alloc(), words, "[]", NONE)?;
@@ -473,6 +504,7 @@ fn cycles_of_three_and_bursts_without_end(rt: HostRuntime) -> Result<(), Fail> {
     assert_sent(&rt, alloc, "run --limit 1", &endless, &[(0, 1)])
 }
 
+mod captures;
 mod gates;
 mod hostile;
 mod packets;

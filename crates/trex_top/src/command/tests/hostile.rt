@@ -1,5 +1,7 @@
 // Reads and writes that fail, and profiles that are made to do harm.
 
+ghost use Rattle.std.specs.Prelude.{◌≤◌};
+
 use super::{CAPTURE, Ends, Failing, NONE, REPORT, Ran, assert_left, burst, run_over};
 use crate::Status;
 use std::alloc::Global;
@@ -23,9 +25,12 @@ fn run<R: Threads + Sync>(
     text: &str,
     step: usize,
     failing: Failing,
-) -> Result<Ran, Fail> {
+) -> Result<Ran, Fail>
+    requires { 1 ≤ step }
+{
     let ends = Ends {
-        step,
+        read: step,
+        written: step,
         room: SMALL_ROOM,
     };
     run_over(rt, alloc, line, text.as_bytes(), ends, failing, &mut [Open; 2])
@@ -74,7 +79,8 @@ fn each_write_of_a_run_that_fails_leaves_what_stood_before(rt: HostRuntime) -> R
         );
     }
     let ends = Ends {
-        step: 1,
+        read: 1,
+        written: 1,
         room: 113,
     };
     let full = run_over(&rt, alloc, "run", text.as_bytes(), ends, NONE, &mut [Open; 2])?;
