@@ -1,13 +1,12 @@
 -- What is counted of a run's packets as they go by.
-use Rattle.std.proofs.Common.{◌≡◌, ℕ, ◌+◌, ◌*◌, ◌≤◌, ◌^◌, List, [], ◌∷◌, ◌++◌, length, map, sum_by, take, drop, slice_get, Some, refl, sym, ap, ◌∙◌, subst, arith, zero-add}
+use Rattle.std.proofs.Common.{◌≡◌, ℕ, ◌+◌, ◌≤◌, List, ◌++◌, length, sum_by, take, drop, slice_get, Some, sym, ap, ◌∙◌, arith, zero-add}
 use Rattle.std.proofs.Math.Seq.{take-length}
 use Rattle.std.proofs.lemmas.List.{length-take}
 use Rattle.std.proofs.lemmas.List.Sums.{sum_by_push}
 use Rattle.trex_core.specs.Plan.{frames_of_plan}
 use Rattle.trex_merge.specs.Frames.{Frame, key_of}
 use Rattle.trex_merge.specs.Order.{ordered}
-use Rattle.trex_pcap.specs.Writing.{Packet, record_of}
-use Rattle.trex_sum.specs.Running.{running}
+use Rattle.trex_pcap.specs.Writing.{record_of}
 use Rattle.trex_sum.specs.Checksum.{fold_of, sum_of}
 use Rattle.trex_top.specs.declared.sampling.Counts.{Counts}
 use Rattle.trex_top.specs.Capture.{capture_text, packet_at}

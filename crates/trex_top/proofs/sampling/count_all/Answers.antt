@@ -1,4 +1,4 @@
-use Rattle.std.proofs.Common.{◌≡◌, ℕ, ◌+◌, ◌*◌, ◌-◌, ◌<◌, ◌≤◌, ◌^◌, true, false, List, [], ◌∷◌, ◌++◌, length, map, sum_by, take, drop, slice_get, Some, refl, sym, ap, ◌∙◌, subst, arith, length-drop}
+use Rattle.std.proofs.Common.{◌≡◌, ◌+◌, length, take, drop, slice_get, Some, sym, ap, ◌∙◌, arith, length-drop}
 use Rattle.std.proofs.lemmas.Option.{slice_get_within}
 use Rattle.trex_merge.specs.Frames.{Frame, frame_of}
 use Rattle.trex_sum.specs.declared.running.RunningSum.{RunningSum}
@@ -8,7 +8,7 @@ use Rattle.trex_top.specs.Capture.{capture_text}
 use Rattle.trex_top.specs.Ready.{all_of, cores_of}
 use Rattle.trex_top.specs.Rounds.{Suffice}
 use Rattle.trex_top.specs.Steps.{seen}
-use Rattle.trex_top.proofs.Counted.{all-limited, summed-more, bytes-more, counted-all}
+use Rattle.trex_top.proofs.Counted.{summed-more, bytes-more, counted-all}
 use Rattle.trex_top.proofs.Readying.{all_same, found_next, seen_more}
 use Rattle.trex_top.proofs.Telling.{tell_nothing, tell_on}
 use Rattle.trex_top.proofs.sampling.count_all.Goals as goal
