@@ -1,14 +1,13 @@
 -- How many packets the cores have made.
-use Rattle.std.proofs.Common.{◌≡◌, ℕ, zero, suc, ◌+◌, ◌*◌, ◌-◌, ◌<◌, ◌≤◌, List, [], ◌∷◌, ◌++◌, length, map, take, drop, refl, sym, ap, subst, ◌∙◌, arith, Some, length-append}
+use Rattle.std.proofs.Common.{◌≡◌, ℕ, zero, suc, ◌+◌, ◌-◌, ◌<◌, ◌≤◌, List, [], ◌∷◌, ◌++◌, length, map, take, refl, sym, ap, ◌∙◌, arith, Some, length-append}
 use Rattle.std.specs.List.{AllByRecursion, range_with_len, slice_get}
 use Rattle.std.proofs.lemmas.List.{length-drop, length-map}
-use Rattle.trex_core.specs.Batches.{batch_of}
 use Rattle.trex_core.specs.Beginnings.{batch_within}
 use Rattle.trex_core.specs.Turning.{stem-refilled}
 use Rattle.trex_core.specs.Works.{Work, added, turned}
 use Rattle.trex_merge.specs.declared.next.Next.{Next}
 use Rattle.trex_merge.specs.declared.next.Next.TheVariants.{Packet, Need, End}
-use Rattle.trex_merge.specs.Frames.{Frame, key_of, sequence, share}
+use Rattle.trex_merge.specs.Frames.{Frame, key_of}
 use Rattle.trex_merge.specs.Machine.{HaveShares, sent_by}
 use Rattle.trex_merge.specs.Order.{ordered}
 use Rattle.trex_merge.specs.Queues.{Queue, at_place, popped, refilled, stem}

@@ -1,9 +1,7 @@
 -- What stays true of a run from one step to the next.
-use Rattle.std.proofs.Common.{◌≡◌, ℕ, zero, suc, ◌+◌, ◌*◌, ◌^◌, ◌-◌, ◌≤◌, ◌<◌, Bool, true, false, List, [], ◌∷◌, ◌++◌, length, map, take, drop, refl, sym, ap, ◌∙◌, subst, arith, length-append, inl, inr, get_or, Some, add-one}
+use Rattle.std.proofs.Common.{◌≡◌, ℕ, zero, suc, ◌+◌, ◌*◌, ◌^◌, ◌-◌, ◌≤◌, ◌<◌, true, false, List, [], ◌∷◌, ◌++◌, length, map, take, drop, refl, sym, ap, ◌∙◌, subst, arith, get_or, Some, add-one}
 use Rattle.std.specs.List.{AllByRecursion, range_with_len, slice_get}
-use Rattle.trex_core.specs.declared.batch.TheConstants.{BATCH_PACKETS, BATCH_BYTES}
-use Rattle.trex_core.specs.declared.maker.TheConstants.{LONGEST_PACKET}
-use Rattle.trex_core.specs.Batches.{IsWithin, batch_of}
+use Rattle.trex_core.specs.Batches.{batch_of}
 use Rattle.trex_core.specs.Plan.{PlanOf, frame_at, frames_of_plan, packet_bytes, schedule}
 use Rattle.trex_profile.specs.Packets.{packet_of}
 use Rattle.trex_sched.specs.declared.slot.Slot.{Slot}
@@ -19,7 +17,7 @@ use Rattle.trex_merge.proofs.Kept.{emit_shares, start_shares}
 use Rattle.trex_merge.proofs.Events.{emit_keeps, next_in_sequence, run_keeps, start_is}
 use Rattle.trex_merge.proofs.Coming.{end_is_ended, packet_is_least}
 use Rattle.std.proofs.lemmas.List.{length-map, length-take-le, take-map}
-use Rattle.trex_merge.specs.Order.{AreDistinct, Has, IsRising, joined, ordered}
+use Rattle.trex_merge.specs.Order.{AreDistinct, IsRising, joined, ordered}
 use Rattle.trex_merge.specs.Queues.{Queue, all_waiting, is_needy, is_none_left, next_of, refilled, stem, waiting_at}
 use Rattle.trex_merge.proofs.Laws.{all_at, all_from, ordered_kept, same-ordered}
 use Rattle.trex_merge.proofs.Lists.{all-append_left, all-append_right}

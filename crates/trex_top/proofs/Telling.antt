@@ -1,12 +1,12 @@
 -- What the gates of a run are told, round by round.
-use Rattle.std.proofs.Common.{◌≡◌, ℕ, zero, suc, ◌+◌, ◌*◌, ◌/◌, ◌<◌, List, [], ◌∷◌, ◌++◌, length, map, refl, sym, ap, subst, ◌∙◌, arith, Option, None, append_assoc, append-nil, zero-add, add-one, length-append, IsPermutation}
+use Rattle.std.proofs.Common.{◌≡◌, ℕ, zero, suc, ◌+◌, ◌*◌, ◌/◌, ◌<◌, List, [], ◌∷◌, ◌++◌, length, map, sym, ap, subst, ◌∙◌, arith, Option, append_assoc, append-nil, zero-add, add-one, length-append, IsPermutation}
 use Rattle.std.specs.List.{flat_map, range_with_len}
 use Rattle.std.proofs.lemmas.Grind.{flat_map-append}
 use Rattle.std.proofs.lemmas.List.FromFn.{length-map-range_with_len}
 use Rattle.std.proofs.lemmas.List.Sorted.{IsPermutation-append_left, IsPermutation-append_right, IsPermutation-refl, IsPermutation-trans, length_permutation}
 use Rattle.std.proofs.lemmas.Simd.{map-map}
 use Rattle.std.proofs.Math.Nat.{mul-div_cancel, zero-div}
-use Rattle.trex_crew.specs.Told.{Entered, IfTold}
+use Rattle.trex_crew.specs.Told.{IfTold}
 use Rattle.trex_crew.proofs.Cores.{range_snoc}
 use Rattle.trex_crew.proofs.Entries.{all_told, told_nothing, told_twice}
 use Rattle.trex_merge.specs.declared.next.Next.{Next}

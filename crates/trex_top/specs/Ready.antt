@@ -1,9 +1,9 @@
 -- A run that is ready for its next step. Own.
-use Rattle.std.specs.Prelude.{◌≡◌, ℕ, ◌+◌, ◌-◌, ◌≤◌, ◌<◌, ◌^◌, Bool, List, Option, Some, [], length, map, take, slice_get}
+use Rattle.std.specs.Prelude.{◌≡◌, ℕ, ◌+◌, ◌-◌, ◌≤◌, ◌<◌, ◌^◌, List, Some, [], length, map, take, slice_get}
 use Rattle.std.specs.List.{AllByRecursion, range_with_len}
 use Rattle.trex_core.specs.declared.maker.TheConstants.{LONGEST_PACKET}
 use Rattle.trex_core.specs.Plan.{PlanOf, frames_of_plan}
-use Rattle.trex_core.specs.Works.{Work, added}
+use Rattle.trex_core.specs.Works.{Work}
 use Rattle.trex_merge.specs.declared.next.Next.{Next}
 use Rattle.trex_merge.specs.declared.next.Next.TheVariants.{Packet, Need, End}
 use Rattle.trex_merge.specs.Frames.{Frame, key_of, sequence, share}

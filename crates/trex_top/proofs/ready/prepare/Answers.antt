@@ -1,12 +1,10 @@
-use Rattle.std.proofs.Common.{◌≡◌, List, None, length, ap, sym, ◌∙◌, subst}
-use Rattle.std.specs.List.{AllByRecursion}
+use Rattle.std.proofs.Common.{◌≡◌, List, None, length, ap, sym, ◌∙◌}
 use Rattle.trex_core.specs.Plan.{PlanOf, frames_of_plan}
-use Rattle.trex_core.specs.Works.{Work}
 use Rattle.trex_merge.specs.Frames.{sequence}
 use Rattle.trex_profile.specs.Admission.{refusal_of}
 use Rattle.trex_profile.specs.Stream.{Stream}
 use Rattle.trex_top.specs.Capture.{sequence as run_sequence}
-use Rattle.trex_top.specs.Ready.{IsShort, first_works}
+use Rattle.trex_top.specs.Ready.{first_works}
 use Rattle.trex_top.proofs.Readying.{plan_short, sequence_is, works_count}
 use Rattle.trex_top.proofs.ready.prepare.Goals as goal
 

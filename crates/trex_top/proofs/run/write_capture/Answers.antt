@@ -1,9 +1,9 @@
 use Rattle.std.proofs.Common.{◌≡◌, List, sym, ap, ◌∙◌, subst, length}
-use Rattle.trex_io.specs.Texts.{Wrote, WrotePart, Writes}
+use Rattle.trex_io.specs.Texts.{Wrote, WrotePart}
 use Rattle.trex_core.specs.Plan.{PlanOf}
 use Rattle.trex_merge.specs.Frames.{Frame}
 use Rattle.trex_profile.specs.Stream.{Stream}
-use Rattle.trex_top.specs.Capture.{capture, capture_text, sequence, tallies}
+use Rattle.trex_top.specs.Capture.{capture_text, sequence, tallies}
 use Rattle.trex_top.specs.Ready.{all_of, cores_of, gone_to}
 use Rattle.trex_top.specs.Rounds.{Suffice}
 use Rattle.trex_top.proofs.Readying.{all_same, gone_all}

@@ -1,13 +1,12 @@
-use Rattle.std.proofs.Common.{◌≡◌, ℕ, ◌+◌, ◌*◌, ◌-◌, ◌<◌, ◌≤◌, ◌^◌, true, false, List, [], ◌∷◌, ◌++◌, length, map, take, drop, slice_get, Some, refl, sym, ap, ◌∙◌, subst, arith, append-nil, length-drop, rules}
+use Rattle.std.proofs.Common.{◌≡◌, ℕ, ◌+◌, ◌*◌, ◌^◌, List, ◌++◌, length, take, drop, slice_get, Some, refl, sym, ap, ◌∙◌, subst, arith, length-drop, rules}
 use Rattle.std.proofs.Math.Seq.{take-length}
-use Rattle.std.proofs.KnownBytes.{Appends-nil}
 use Rattle.std.proofs.lemmas.Option.{slice_get_within}
 use Rattle.trex_io.specs.Texts.{WrotePart}
-use Rattle.trex_pcap.specs.Writing.{file_header, record_of, capture_of}
+use Rattle.trex_pcap.specs.Writing.{record_of}
 use Rattle.trex_merge.specs.Frames.{Frame, frame_of}
 use Rattle.trex_top.specs.Capture.{capture_text, packet_at}
 use Rattle.trex_top.specs.Pieces.{Gathers}
-use Rattle.trex_top.specs.Ready.{Stand, all_of, cores_of}
+use Rattle.trex_top.specs.Ready.{all_of, cores_of}
 use Rattle.trex_top.specs.Rounds.{Suffice}
 use Rattle.trex_top.specs.Steps.{seen}
 use Rattle.trex_top.proofs.Gathering.{Gathers-more, Gathers-part, capture_of-more, capture_of-front}

@@ -5,7 +5,7 @@ use Rattle.trex_core.specs.Works.{Work}
 use Rattle.trex_crew.specs.Crews.{works_of}
 use Rattle.trex_merge.specs.Frames.{sequence}
 use Rattle.trex_merge.proofs.Events.{sent_whole}
-use Rattle.trex_top.specs.Ready.{Stand, all_of, cores_of, queues_of}
+use Rattle.trex_top.specs.Ready.{all_of, cores_of, queues_of}
 use Rattle.trex_top.specs.Rounds.{Suffice}
 use Rattle.trex_top.specs.Steps.{is_packet, state_of}
 use Rattle.trex_top.proofs.Readying.{ended, ended_suffices}
