@@ -339,9 +339,10 @@ fn names_that_are_absent_have_their_defaults(rt: HostRuntime) -> Result<(), Fail
         };
         assert!(rt; profile.len() == 1);
         let template = profile.stream(0).template.as_slice();
-        assert!(rt; template.starts_with(&STATIONS));
-        assert_eq!(rt; template.len(), 12 + behind.len());
-        assert!(rt; template.ends_with(behind), "{text}");
+        let Some(found) = template.strip_prefix(STATIONS.as_slice()) else {
+            return Err(Fail::from("other stations"));
+        };
+        assert_eq!(rt; found, behind, "{text}");
     }
     Ok(())
 }
