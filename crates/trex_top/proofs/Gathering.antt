@@ -1,9 +1,9 @@
 -- A text that is written in pieces, and the records of packets as such a text.
-use Rattle.std.proofs.Common.{◌≡◌, ℕ, ◌≤◌, List, [], ◌∷◌, ◌++◌, length, map, take, drop, Option, refl, sym, ap, ◌∙◌, subst, append_assoc, append-nil}
+use Rattle.std.proofs.Common.{◌≡◌, ℕ, ◌≤◌, List, [], ◌∷◌, ◌++◌, map, take, drop, Option, sym, ap, ◌∙◌, subst, append_assoc, append-nil}
 use Rattle.std.specs.List.{flat_map}
 use Rattle.std.proofs.lemmas.List.{map-append}
 use Rattle.std.proofs.lemmas.Grind.{flat_map-append}
-use Rattle.trex_io.specs.Texts.{Wrote, WrotePart}
+use Rattle.trex_io.specs.Texts.{WrotePart}
 use Rattle.trex_io.proofs.Texts.{Wrote-after, WrotePart-after, WrotePart-longer}
 use Rattle.trex_pcap.specs.Writing.{Packet, file_header, record_of, capture_of}
 use Rattle.trex_top.specs.Pieces.{Gathers}

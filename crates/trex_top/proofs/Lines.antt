@@ -1,7 +1,7 @@
 -- Lines on whose failing nothing hangs.
-use Rattle.std.proofs.Common.{◌≡◌, ℕ, ◌≤◌, List, Option, Result, Ok, Err, length, take, subst, sym, arith}
+use Rattle.std.proofs.Common.{ℕ, List, Option, Result, Ok, Err, length, subst, sym, arith}
 use Rattle.std.proofs.lemmas.List.{take_all}
-use Rattle.trex_io.specs.Texts.{Wrote, WrotePrefix, Writes}
+use Rattle.trex_io.specs.Texts.{Wrote, Writes}
 use Rattle.trex_top.specs.Clauses.{Tells}
 
 -- a call that writes a line tells it

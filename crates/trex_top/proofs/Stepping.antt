@@ -1,14 +1,14 @@
 -- The steps of a run, over what is left at the cores and how many packets were sent.
-use Rattle.std.proofs.Common.{◌≡◌, ℕ, zero, suc, ◌+◌, ◌-◌, ◌≤◌, ◌<◌, Bool, true, false, List, [], ◌∷◌, ◌++◌, length, map, take, refl, sym, ap, ◌∙◌, subst, arith, length-append, Some, Option, inl, inr}
+use Rattle.std.proofs.Common.{◌≡◌, ℕ, zero, suc, ◌+◌, ◌-◌, ◌≤◌, true, false, List, [], ◌∷◌, ◌++◌, length, map, take, refl, sym, ap, ◌∙◌, subst, arith, length-append, Some, inl, inr}
 use Rattle.std.proofs.lemmas.List.{length-take-le}
 use Rattle.std.proofs.Math.Seq.{take-append_seam}
 use Rattle.std.specs.List.{AllByRecursion, slice_get}
 use Rattle.trex_merge.specs.declared.next.Next.{Next}
 use Rattle.trex_merge.specs.declared.next.Next.TheVariants.{Packet, Need, End}
 use Rattle.trex_merge.specs.Frames.{Frame, key_of}
-use Rattle.trex_merge.specs.Machine.{Event, Refill, Emit, IsMill, MillState, emitted, happens, next_in, run}
+use Rattle.trex_merge.specs.Machine.{Emit, IsMill, MillState, emitted, happens, next_in, run}
 use Rattle.trex_merge.specs.Order.{ordered, joined}
-use Rattle.trex_merge.specs.Queues.{Queue, IsNeedyFirst, at_place, is_needy, next_of, popped, refilled, stem, waiting_at}
+use Rattle.trex_merge.specs.Queues.{Queue, at_place, is_needy, next_of, popped, refilled, stem, waiting_at}
 use Rattle.trex_merge.proofs.Coming.{all_is_end, end_is_all, need_is_first, packet_is_least}
 use Rattle.trex_merge.proofs.Events.{emit_keeps, first_waits}
 use Rattle.trex_top.specs.Steps.{is_packet, queues_after, round_from, sent_after, state_of}

@@ -1,5 +1,5 @@
 -- The verdict on an input of which more was read than a profile may have.
-use Rattle.std.proofs.Common.{◌≡◌, ℕ, ◌<◌, ◌++◌, List, length, Option, Some, None, Err, nat_lt, true, refl, ap, arith, length-append}
+use Rattle.std.proofs.Common.{◌≡◌, ℕ, ◌<◌, List, length, Option, Some, None, Err, nat_lt, true, refl, ap, arith, length-append}
 use Rattle.std.proofs.lemmas.Bool.{lt-ltb}
 use Rattle.std.specs.Io.KnownBytes.{Consumes}
 use Rattle.trex_profile.specs.declared.rule.Rule.TheVariants.{TooLong}

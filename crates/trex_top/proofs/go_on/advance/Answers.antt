@@ -1,4 +1,4 @@
-use Rattle.std.proofs.Common.{◌≡◌, ◌+◌, ◌-◌, take, ap, sym, ◌∙◌}
+use Rattle.std.proofs.Common.{◌≡◌, ◌+◌, ◌-◌, take, sym, ◌∙◌}
 use Rattle.trex_core.specs.Plan.{frames_of_plan}
 use Rattle.trex_crew.specs.Crews.{works_of}
 use Rattle.trex_merge.specs.Frames.{key_of, sequence}

@@ -1,6 +1,3 @@
-use Rattle.std.proofs.Common.{◌≡◌, ◌<◌, ap, Err, arith}
-use Rattle.trex_io.specs.Reading.{StopsAfter}
-use Rattle.trex_top.specs.Clauses.{HasVerdict}
 use Rattle.trex_top.proofs.TooLong.{HasVerdict-too_long}
 use Rattle.trex_top.proofs.input.read_input.Goals as goal
 

@@ -1,8 +1,7 @@
-use Rattle.std.proofs.Common.{◌≡◌, ◌+◌, ◌≤◌, ◌++◌, ◌∷◌, [], length, map, ap, subst, sym, ◌∙◌, arith, rules, vec_len, List}
+use Rattle.std.proofs.Common.{◌≡◌, ◌++◌, ◌∷◌, [], length, map, ap, ◌∙◌, arith}
 use Rattle.std.specs.List.{range_with_len}
 use Rattle.trex_core.specs.Plan.{frames_of_plan}
 use Rattle.trex_core.specs.Works.{Work}
-use Rattle.trex_crew.specs.Crews.{AreInOrder}
 use Rattle.trex_top.specs.Ready.{first_work, first_works}
 use Rattle.trex_top.proofs.Readying.{works_count, works_in_order, works_more}
 use Rattle.trex_top.proofs.ready.crew_of.Goals as goal

@@ -1,6 +1,7 @@
-use Rattle.std.proofs.Common.{◌≡◌, ◌+◌, length, take, drop, slice_get, Some, sym, ap, ◌∙◌, arith, length-drop}
+use Rattle.std.proofs.Common.{◌≡◌, ◌+◌, length, take, drop, slice_get, Some, [], refl, sym, ap, ◌∙◌, subst, arith, append-nil, length-drop, rules}
 use Rattle.std.proofs.lemmas.Option.{slice_get_within}
 use Rattle.trex_merge.specs.Frames.{Frame, frame_of}
+use Rattle.trex_pcap.specs.Writing.{file_header}
 use Rattle.trex_sum.specs.declared.running.RunningSum.{RunningSum}
 use Rattle.trex_sum.specs.Checksum.{fold_of}
 use Rattle.trex_sum.specs.Running.{running}
@@ -57,6 +58,21 @@ packets-preserved g c =
       told = tell_on g.G.Gate.entries (cores_of c.args.ready.now) (cores_of c.packets.ready) c.args.ready.now.rounds c.packets.ready.rounds c.step.new.self.rounds
           c.args.gates.now c.packets.gates c.step.new.gates c.packets.invariant.cores c.packets.auto.gates c.packets.invariant.told c.step.ensures.gates;
     }
+
+pub packets-init : goal.packets-init
+packets-init g c = record {
+  plan = refl;
+  limit = refl;
+  within = search rules;
+  summed = c.add.ensures.value [] c.new-sum.ensures ∙ ap running (c.header.ensures ∙ sym (append-nil file_header))
+      ∙ ap (λ n. running (capture_text 0 (take n (all_of c.args.ready.now)))) (sym c.requires.none);
+  room = search rules;
+  packets = search rules;
+  bytes = search rules;
+  small = search rules;
+  cores = refl;
+  told = tell_nothing g.G.Gate.entries (cores_of c.args.ready.now) c.args.ready.now.rounds c.args.gates.now;
+}
 
 pub returns-clause-counts : goal.returns-clause-counts
 returns-clause-counts g c =

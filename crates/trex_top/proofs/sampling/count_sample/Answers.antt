@@ -12,6 +12,12 @@ unfolding sample_counts
 returns-clause-counts g c =
     c.count_all.ensures.counts ∙ ap counts_of (c.in_ok-ready.ensures.all ∙ ap (λ (p : List Stream). sequence p (run_of c.args.ask.now)) c.in_ok-profile.ensures)
 
+pub returns-in_err-profile-clause-rounds : goal.returns-in_err-profile-clause-rounds
+returns-in_err-profile-clause-rounds g c = tell_no_rounds g.G.Gate.entries c.args.ask.now.run.cores c.args.gates.now
+
+pub returns-in_err-ready-clause-rounds : goal.returns-in_err-ready-clause-rounds
+returns-in_err-ready-clause-rounds g c = tell_no_rounds g.G.Gate.entries c.args.ask.now.run.cores c.args.gates.now
+
 pub returns-clause-rounds : goal.returns-clause-rounds
 returns-clause-rounds g c =
     let ready = c.in_ok-ready.ready in

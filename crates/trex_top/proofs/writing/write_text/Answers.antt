@@ -1,4 +1,4 @@
-use Rattle.std.proofs.Common.{◌≡◌, ℕ, List, ◌++◌, sym, ap, ◌∙◌, subst}
+use Rattle.std.proofs.Common.{ℕ, List, ◌++◌, sym, ap, ◌∙◌, subst}
 use Rattle.trex_io.specs.Texts.{Writes}
 use Rattle.trex_io.proofs.Texts.{Writes-after}
 use Rattle.trex_top.proofs.writing.write_text.Goals as goal

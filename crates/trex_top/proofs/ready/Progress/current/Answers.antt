@@ -1,9 +1,8 @@
-use Rattle.std.proofs.Common.{◌≡◌, ◌-◌, length, take, ap, sym, ◌∙◌, Some, subst}
+use Rattle.std.proofs.Common.{◌≡◌, ◌-◌, length, ap, sym, ◌∙◌, Some, subst}
 use Rattle.std.proofs.lemmas.List.{length-take-le}
 use Rattle.std.specs.List.{slice_get}
 use Rattle.trex_core.specs.Plan.{frames_of_plan}
 use Rattle.trex_crew.specs.Crews.{works_of}
-use Rattle.trex_merge.specs.declared.next.Next.{Next}
 use Rattle.trex_merge.specs.declared.next.Next.TheVariants.{Packet}
 use Rattle.trex_merge.specs.Frames.{frame_of, key_of, sequence}
 use Rattle.trex_merge.specs.Order.{ordered}

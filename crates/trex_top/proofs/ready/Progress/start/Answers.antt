@@ -1,12 +1,10 @@
-use Rattle.std.proofs.Common.{◌≡◌, ◌+◌, ◌-◌, ◌≤◌, length, take, ap, sym, ◌∙◌, arith}
+use Rattle.std.proofs.Common.{◌≡◌, ◌+◌, ◌-◌, ◌≤◌, length, take, ap, ◌∙◌, arith}
 use Rattle.trex_core.specs.Plan.{frames_of_plan}
 use Rattle.trex_crew.specs.Crews.{works_of}
 use Rattle.trex_merge.specs.Frames.{sequence}
-use Rattle.trex_merge.specs.Machine.{next_in}
 use Rattle.trex_merge.specs.Queues.{next_of}
 use Rattle.trex_top.specs.Capture.{tallies}
-use Rattle.trex_top.specs.Ready.{IsReady, coming, queues_of}
-use Rattle.trex_top.specs.Steps.{seen, state_of}
+use Rattle.trex_top.specs.Ready.{coming, queues_of}
 use Rattle.trex_top.proofs.Readying.{begins, early_by, seen_is}
 use Rattle.trex_top.proofs.ready.Progress.start.Goals as goal
 
