@@ -1,28 +1,20 @@
 -- The header of each layer, as a function of its fields and of what follows it.
-use Rattle.std.specs.Prelude.{ℕ, ◌+◌, ◌-◌, ◌==◌, if◌then◌else◌, List, [], ◌∷◌, ◌++◌, length, Option, None, Some}
+use Rattle.std.specs.Prelude.{ℕ, ◌+◌, ◌-◌, ◌==◌, if◌then◌else◌, List, [], ◌∷◌, ◌++◌, length, Option, Some}
 use Rattle.byteorder.specs.Endian.{big_bytes}
 use Rattle.trex_sum.specs.Checksum.{sum_of, fold_of}
 use Rattle.trex_build.specs.Layer.{Layer, Ethernet, Vlan, Ipv4, Tcp, Udp, Raw}
 
 -- the type in the header before a layer (IEEE 802.3, 3.2.6; IEEE 802.1Q, 9.6): 0x8100 before a tag, 0x0800 before IPv4, else its own
 abbrev pub type_before : Option Layer → ℕ → ℕ
-type_before None own = own
-type_before (Some (Ethernet dst src etype)) own = own
 type_before (Some (Vlan tci etype)) own = 0x8100
 type_before (Some (Ipv4 tos id frag ttl proto src dst)) own = 0x0800
-type_before (Some (Tcp sport dport seq ack flags window)) own = own
-type_before (Some (Udp sport dport)) own = own
-type_before (Some (Raw bytes)) own = own
+type_before _ own = own
 
 -- the protocol in the IPv4 header before a layer (RFC 790): 6 before TCP, 17 before UDP, else its own
 abbrev pub protocol_before : Option Layer → ℕ → ℕ
-protocol_before None own = own
-protocol_before (Some (Ethernet dst src etype)) own = own
-protocol_before (Some (Vlan tci etype)) own = own
-protocol_before (Some (Ipv4 tos id frag ttl proto src dst)) own = own
 protocol_before (Some (Tcp sport dport seq ack flags window)) own = 6
 protocol_before (Some (Udp sport dport)) own = 17
-protocol_before (Some (Raw bytes)) own = own
+protocol_before _ own = own
 
 -- two addresses in network byte order
 abbrev pub addresses : ℕ → ℕ → List ℕ
@@ -30,13 +22,8 @@ addresses src dst = big_bytes 4 src ++ big_bytes 4 dst
 
 -- the addresses of an IPv4 header that stands directly before, none where another layer does
 abbrev pub addresses_of : Option Layer → List ℕ
-addresses_of None = []
-addresses_of (Some (Ethernet dst src etype)) = []
-addresses_of (Some (Vlan tci etype)) = []
 addresses_of (Some (Ipv4 tos id frag ttl proto src dst)) = addresses src dst
-addresses_of (Some (Tcp sport dport seq ack flags window)) = []
-addresses_of (Some (Udp sport dport)) = []
-addresses_of (Some (Raw bytes)) = []
+addresses_of _ = []
 
 -- the pseudo header: the two addresses, zero, the protocol and the segment's length (RFC 768; RFC 793, section 3.1)
 abbrev pub pseudo_header : List ℕ → ℕ → ℕ → List ℕ

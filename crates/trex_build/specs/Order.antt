@@ -6,43 +6,25 @@ use Rattle.trex_build.specs.Layer.{Layer, Ethernet, Vlan, Ipv4, Tcp, Udp, Raw}
 abbrev pub is_link : Layer → Bool
 is_link (Ethernet dst src etype) = true
 is_link (Vlan tci etype) = true
-is_link (Ipv4 tos id frag ttl proto src dst) = false
-is_link (Tcp sport dport seq ack flags window) = false
-is_link (Udp sport dport) = false
-is_link (Raw bytes) = false
+is_link _ = false
 
 abbrev pub is_tag : Layer → Bool
-is_tag (Ethernet dst src etype) = false
 is_tag (Vlan tci etype) = true
-is_tag (Ipv4 tos id frag ttl proto src dst) = false
-is_tag (Tcp sport dport seq ack flags window) = false
-is_tag (Udp sport dport) = false
-is_tag (Raw bytes) = false
+is_tag _ = false
 
 abbrev pub is_ipv4 : Layer → Bool
-is_ipv4 (Ethernet dst src etype) = false
-is_ipv4 (Vlan tci etype) = false
 is_ipv4 (Ipv4 tos id frag ttl proto src dst) = true
-is_ipv4 (Tcp sport dport seq ack flags window) = false
-is_ipv4 (Udp sport dport) = false
-is_ipv4 (Raw bytes) = false
+is_ipv4 _ = false
 
 abbrev pub is_segment : Layer → Bool
-is_segment (Ethernet dst src etype) = false
-is_segment (Vlan tci etype) = false
-is_segment (Ipv4 tos id frag ttl proto src dst) = false
 is_segment (Tcp sport dport seq ack flags window) = true
 is_segment (Udp sport dport) = true
-is_segment (Raw bytes) = false
+is_segment _ = false
 
 -- a layer that has a header, so that a payload may follow
 abbrev pub has_header : Layer → Bool
-has_header (Ethernet dst src etype) = true
-has_header (Vlan tci etype) = true
-has_header (Ipv4 tos id frag ttl proto src dst) = true
-has_header (Tcp sport dport seq ack flags window) = true
-has_header (Udp sport dport) = true
 has_header (Raw bytes) = false
+has_header _ = true
 
 -- there is a last layer, and it is one of these
 abbrev pub ends_in : (Layer → Bool) → List Layer → Bool
