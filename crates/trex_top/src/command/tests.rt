@@ -109,7 +109,12 @@ fn run_over<R: Threads + Sync, G: Gate>(
     } = ends;
     let bytes = Vec::from_slice(alloc, bytes)?;
     let mut input = MemSource::new(bytes, read, Vec::from_slice(alloc, &[failing.input])?);
-    let mut out = MemSink::new(alloc, room, written, Vec::from_slice(alloc, &[failing.out])?)?;
+    let mut out = MemSink::new(
+        alloc,
+        room,
+        written,
+        Vec::from_slice(alloc, &[failing.out])?,
+    )?;
     let mut notes = MemSink::new(
         alloc,
         1_000,

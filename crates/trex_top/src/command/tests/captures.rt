@@ -44,11 +44,12 @@ fn assert_analysis<R: Abort + Threads + Sync>(
 fn a_capture_of_a_flow_is_counted(rt: HostRuntime) -> Result<(), Fail> {
     let alloc = rt.alloc();
     let five = five(alloc)?;
+    let part = five.get(..183).ok_or("five records")?;
     let torn = "bad capture: Torn record 5\n";
     let empty = "bad capture: Torn record 0\n";
     let two = "records 3 bytes 42 stamped 0\n";
     assert_analysis(&rt, alloc, &five, Status::Done, FIVE, "")?;
-    assert_analysis(&rt, alloc, &five[..183], Status::BadCapture, "", torn)?;
+    assert_analysis(&rt, alloc, part, Status::BadCapture, "", torn)?;
     assert_analysis(&rt, alloc, b"", Status::BadCapture, "", empty)?;
     assert_analysis(&rt, alloc, CAPTURE, Status::Done, two, "")?;
     for input in 1..13 {

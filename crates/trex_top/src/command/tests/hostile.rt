@@ -33,7 +33,15 @@ fn run<R: Threads + Sync>(
         written: step,
         room: SMALL_ROOM,
     };
-    run_over(rt, alloc, line, text.as_bytes(), ends, failing, &mut [Open; 2])
+    run_over(
+        rt,
+        alloc,
+        line,
+        text.as_bytes(),
+        ends,
+        failing,
+        &mut [Open; 2],
+    )
 }
 
 /// Text, so many times over.
@@ -83,7 +91,15 @@ fn each_write_of_a_run_that_fails_leaves_what_stood_before(rt: HostRuntime) -> R
         written: 1,
         room: 113,
     };
-    let full = run_over(&rt, alloc, "run", text.as_bytes(), ends, NONE, &mut [Open; 2])?;
+    let full = run_over(
+        &rt,
+        alloc,
+        "run",
+        text.as_bytes(),
+        ends,
+        NONE,
+        &mut [Open; 2],
+    )?;
     assert_left(
         &rt,
         &full,
