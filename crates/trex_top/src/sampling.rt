@@ -137,6 +137,3 @@ pub fn sample<R: Threads + Sync, O: Sink, G: Gate>(
         Err(_) => Err(SampleFault::Out),
     }
 }
-
-#[cfg(test)]
-mod tests;

@@ -513,3 +513,4 @@ mod captures;
 mod gates;
 mod hostile;
 mod packets;
+mod samples;

@@ -1,0 +1,96 @@
+// The line of a sample, and the packets that it sums up.
+
+ghost use Rattle.std.specs.Prelude.{◌≡◌};
+ghost use Rattle.trex_words.specs.Asked.{IsRunAsk};
+
+use super::{Failing, NONE, assert_left, run};
+use crate::{Status, prepare};
+use std::test::Fail;
+use trex_core::Plan;
+use trex_crew::Open;
+use trex_sample::sample_profile;
+use trex_words::RunAsk;
+
+// the numbers were worked out by another program
+#[test]
+fn a_sample_is_one_line_whatever_the_cores(rt: HostRuntime) -> Result<(), Fail> {
+    let alloc = rt.alloc();
+    let small = "sample seed 1 streams 16 packets 20000 bytes 12347297 sum 48ea\n";
+    let large = "sample seed 1 streams 256 packets 1000000 bytes 602447537 sum 4a13\n";
+    for (line, text) in [
+        (
+            "sample --seed 1 --streams 16 --limit 20000 --cores 1",
+            small,
+        ),
+        (
+            "sample --seed 1 --streams 16 --limit 20000 --cores 8",
+            small,
+        ),
+        (
+            "sample --seed 1 --streams 256 --limit 1000000 --cores 1",
+            large,
+        ),
+        (
+            "sample --seed 1 --streams 256 --limit 1000000 --cores 8",
+            large,
+        ),
+    ] {
+        let ran = run(&rt, alloc, line, "", NONE)?;
+        assert_left(&rt, &ran, Status::Done, text.as_bytes(), b"");
+    }
+    Ok(())
+}
+
+#[test]
+fn a_failed_write_leaves_a_part_of_the_line(rt: HostRuntime) -> Result<(), Fail> {
+    let failing = Failing {
+        input: 1,
+        out: 2,
+        notes: 0,
+    };
+    let ran = run(&rt, rt.alloc(), "sample --seed 1 --limit 1", "", failing)?;
+    assert_left(&rt, &ran, Status::OutFault, b"sample see", b"write fault\n");
+    Ok(())
+}
+
+/// The IPv4 and UDP headers of the first packets of the sample of seed 1, as another program worked them out.
+const HEADERS: [&[u8; 28]; 3] = [
+    b"\x45\0\x03\x10\0\0\0\0\x40\x11\x37\xdc\x10\0\0\x01\x30\0\0\x01\xa5\x90\0\x0c\x02\xfc\x14\x58",
+    b"\x45\0\x03\x10\0\0\0\0\x40\x11\x37\xdb\x10\0\0\x02\x30\0\0\x01\x1a\xb1\0\x0c\x02\xfc\x9f\x36",
+    b"\x45\0\x03\x10\0\0\0\0\x40\x11\x37\xda\x10\0\0\x03\x30\0\0\x01\x83\xc3\0\x0c\x02\xfc\x36\x23",
+];
+
+/// A run of three packets.
+fn three() -> RunAsk
+    ensures { IsRunAsk result }
+{
+    RunAsk {
+        duration: 1_000_000_000,
+        limit: 3,
+        cores: 2,
+        base: 0,
+    }
+}
+
+#[test]
+fn the_packets_of_a_sample_have_their_addresses_and_ports(rt: HostRuntime) -> Result<(), Fail> {
+    let alloc = rt.alloc();
+    let Ok(profile) = sample_profile(alloc, 1, 1) else {
+        return Err("no profile".into());
+    };
+    let ask = three();
+    let plan = Plan::new(&profile, ask.duration, ask.base);
+    let Ok(mut ready) = prepare(alloc, &profile, &plan, &ask) else {
+        return Err("no run".into());
+    };
+    for (headers, time) in HEADERS.into_iter().zip([0, 2_462, 4_925]) {
+        let more = ready.step(&rt, &mut [Open; 2]);
+        assert!(rt; more);
+        let head = ready.current();
+        assert_eq!(rt; head.time, time);
+        assert_eq!(rt; head.bytes.len(), 798);
+        assert_eq!(rt; head.bytes.get(14..42), Some(headers.as_slice()));
+        assert!(rt; head.bytes.iter().skip(42).all(|byte| *byte == 0));
+    }
+    Ok(())
+}
