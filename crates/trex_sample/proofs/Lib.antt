@@ -2,3 +2,4 @@ pub mod Headers
 pub mod Values
 pub mod Several
 pub mod Kept
+mod Layered

@@ -4,7 +4,8 @@ use Rattle.std.specs.Prelude.{ℕ, ◌+◌, ◌-◌, List, [], ◌∷◌, ◌++�
 use Rattle.std.proofs.Math.ListN.{replicate}
 use Rattle.byteorder.specs.Endian.{big_bytes}
 use Rattle.trex_sum.specs.Checksum.{sum_of, fold_of}
-use Rattle.trex_vm.specs.declared.instr.L4Kind.TheVariants.{Udp}
+use Rattle.trex_build.specs.Layer.{Layer, Ethernet, Ipv4, Udp, Raw}
+use Rattle.trex_vm.specs.declared.instr.L4Kind.TheVariants.{Udp as UdpSegment}
 use Rattle.trex_vm.specs.Fix.{written_sum}
 
 -- the checksum of some bytes: the complement of their sum's fold (RFC 1071, section 1)
@@ -41,7 +42,7 @@ zeros count = replicate count 0
 
 -- the checksum of a UDP segment of so many zeros, over the pseudo header, the header and the zeros; all ones stand for none
 unfoldable pub udp_sum : ℕ → ℕ
-udp_sum pad = written_sum Udp (checksum (pseudo_header (8 + pad) ++ udp_with (8 + pad) 0 ++ zeros pad))
+udp_sum pad = written_sum UdpSegment (checksum (pseudo_header (8 + pad) ++ udp_with (8 + pad) 0 ++ zeros pad))
 
 -- the UDP header in front of so many zeros, with its checksum
 unfoldable pub udp : ℕ → List ℕ
@@ -50,3 +51,12 @@ udp pad = udp_with (8 + pad) (udp_sum pad)
 -- the template with so many zeros behind its headers
 unfoldable pub template : ℕ → List ℕ
 template pad = ethernet ++ ipv4 (28 + pad) ++ udp pad ++ zeros pad
+
+-- the same as layers
+abbrev pub layers : ℕ → List Layer
+layers pad =
+    Ethernet (2 ∷ 0 ∷ 0 ∷ 0 ∷ 0 ∷ 2 ∷ []) (2 ∷ 0 ∷ 0 ∷ 0 ∷ 0 ∷ 1 ∷ []) 34997
+    ∷ Ipv4 0 0 0 64 253 268435457 805306369
+    ∷ Udp 1025 12
+    ∷ Raw (zeros pad)
+    ∷ []

@@ -9,5 +9,5 @@ mod template;
 mod tests;
 mod word;
 
-pub use laws::samples_keep_the_rules;
+pub use laws::{samples_keep_the_rules, templates_are_built};
 pub use sample::sample_profile;
