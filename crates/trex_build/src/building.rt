@@ -8,15 +8,19 @@ use crate::header::{header_length, write_header};
 use crate::layer::LayerSpec;
 use crate::order::misplaced;
 use std::alloc::{AllocError, Global};
+use thiserror::Error;
 
 /// Why layers give no packet.
-#[derive(Clone, Copy, Debug, PartialEq, Eq)]
+#[derive(Clone, Copy, Debug, PartialEq, Eq, Drop, Error)]
 pub enum BuildFault {
     /// The place of the first layer that can't stand where it does; 0 where there is no layer.
+    #[error("layer {at} can't stand there")]
     Order { at: usize },
     /// The order is right, and the packet has more than 9,216 bytes.
+    #[error("more than 9216 bytes")]
     TooLong,
     /// There was no memory for the packet.
+    #[error("out of memory")]
     Memory,
 }
 

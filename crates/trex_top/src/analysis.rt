@@ -6,21 +6,26 @@ ghost use Rattle.trex_report.specs.Texts.{analysis_text};
 ghost use Rattle.trex_top.specs.Analysis.{AnalysisAnswers, AnalysisStops};
 
 use std::alloc::Global;
+use thiserror::Error;
 use trex_io::{Sink, Source};
 use trex_measure::{MeasureFault, measure};
 use trex_pcap::CaptureFault;
 use trex_report::write_flows;
 
 /// Why a capture wasn't analyzed.
-#[derive(Clone, Copy, Debug, PartialEq, Eq, Drop)]
+#[derive(Clone, Copy, Debug, PartialEq, Eq, Drop, Error)]
 pub enum AnalyzeFault {
     /// The input could not be read.
+    #[error("the input failed")]
     Read,
     /// The capture has a fault, which is never `Fault`.
+    #[error("{0}")]
     Bad(CaptureFault),
     /// The output could not be written.
+    #[error("the output failed")]
     Out,
     /// Want of memory.
+    #[error("out of memory")]
     Memory,
 }
 

@@ -15,6 +15,7 @@ ghost use Rattle.trex_top.specs.Steps.{seen};
 use crate::ready::{Ready, prepare};
 use std::alloc::Global;
 use std::thread::Threads;
+use thiserror::Error;
 use trex_core::Plan;
 use trex_crew::Gate;
 use trex_io::{Memory, Sink};
@@ -25,11 +26,13 @@ use trex_sum::{RunningSum, fold};
 use trex_words::{RunAsk, SampleAsk};
 
 /// Why the line of a sample wasn't written.
-#[derive(Clone, Copy, Debug, PartialEq, Eq, Drop)]
+#[derive(Clone, Copy, Debug, PartialEq, Eq, Drop, Error)]
 pub enum SampleFault {
     /// The output failed, and a part of the line may stand there.
+    #[error("the output failed")]
     Out,
     /// There was no memory for the profile or for its run, and nothing was written.
+    #[error("out of memory")]
     Memory,
 }
 
