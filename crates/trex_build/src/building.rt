@@ -1,7 +1,7 @@
 // The packet of some layers.
 
 ghost use Rattle.std.specs.Prelude.{◌≡◌, ◌+◌, ◌≤◌, length, map, option_map, sum_by, nat_le, if◌then◌else◌, Some, None};
-ghost use Rattle.trex_build.specs.Built.{Builds, built, bytes_behind, header_length};
+ghost use Rattle.trex_build.specs.Built.{Builds, bytes_behind, header_length};
 ghost use Rattle.trex_build.specs.Layer.{layer};
 
 use crate::header::{header_length, write_header};

@@ -1,6 +1,6 @@
 // The header of each layer.
 
-ghost use Rattle.std.specs.Prelude.{◌≡◌, ◌+◌, ◌^◌, ◌<◌, ◌≤◌, ◌++◌, [], ◌∷◌, length, option_map};
+ghost use Rattle.std.specs.Prelude.{◌≡◌, ◌+◌, ◌^◌, ◌<◌, ◌≤◌, ◌++◌, [], length, option_map};
 ghost use Rattle.byteorder.specs.Endian.{big_bytes};
 ghost use Rattle.trex_sum.specs.Checksum.{sum_of};
 ghost use Rattle.trex_build.specs.Built.{header_length};

@@ -1,7 +1,6 @@
 // A core's packets, and the laws called once.
 
-ghost use Rattle.std.specs.Prelude.{◌≤◌, All, IfOk, length, map};
-ghost use Rattle.trex_profile.specs.Admission.{IsRawProfile};
+ghost use Rattle.std.specs.Prelude.{◌≤◌, All, length, map};
 ghost use Rattle.trex_profile.specs.Instruction.{instruction, IsRawInstr};
 ghost use Rattle.trex_profile.specs.Stream.{IsRawStream};
 

@@ -1,6 +1,6 @@
 // The works of a crew are lent to its board, and fetched from it.
 
-ghost use Rattle.std.specs.Prelude.{◌≡◌, ◌≢◌, ℕ, ◌+◌, ◌++◌, ◌∷◌, ◌<◌, ◌≤◌, [], length, vec_len};
+ghost use Rattle.std.specs.Prelude.{◌≡◌, ◌≢◌, ℕ, ◌+◌, ◌<◌, [], length};
 ghost use Rattle.std.specs.Vec.{vec_capacity};
 ghost use Rattle.trex_claims.specs.Boards.{board_id, cores_of};
 ghost use Rattle.trex_claims.specs.Moves.{stand_at};

@@ -1,9 +1,9 @@
 // The workers of a round, in threads: one for each gate.
 
-ghost use Rattle.std.specs.Prelude.{◌≡◌, ◌+◌, ◌<◌, ◌≤◌, [], ◌∷◌, ◌++◌, length};
+ghost use Rattle.std.specs.Prelude.{◌≡◌, ◌+◌, ◌<◌, ◌≤◌, [], ◌++◌, length};
 ghost use Rattle.std.specs.Thread.{IsSync};
 ghost use Rattle.trex_claims.specs.Boards.{board_id};
-ghost use Rattle.trex_claims.specs.Views.{IsFirst, IsOther};
+ghost use Rattle.trex_claims.specs.Views.{IsFirst};
 ghost use Rattle.trex_crew.specs.Workers.{MayDraw, HasDrawn, Worked};
 
 use crate::gate::Gate;

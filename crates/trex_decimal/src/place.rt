@@ -1,4 +1,4 @@
-ghost use Rattle.std.specs.Prelude.{◌≡◌, ℕ, true, false, Option};
+ghost use Rattle.std.specs.Prelude.{◌≡◌, true, false, Option};
 ghost use Rattle.std.specs.Char.{is_ascii_digit};
 ghost use Rattle.trex_decimal.specs.Grammar.{next, may_end, is_mark, is_point};
 

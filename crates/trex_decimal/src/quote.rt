@@ -1,4 +1,4 @@
-ghost use Rattle.std.specs.Prelude.{◌≡◌, ℕ, ◌<◌, ◌≤◌, ◌+◌, ◌++◌, ◌&&◌, ◌==◌, not, false, length, drop, slice_index, take_while, IfOk, OnOk};
+ghost use Rattle.std.specs.Prelude.{◌≡◌, ◌<◌, ◌≤◌, ◌+◌, ◌++◌, ◌&&◌, ◌==◌, not, false, length, drop, slice_index, take_while, IfOk, OnOk};
 ghost use Rattle.trex_decimal.specs.Quoted.{begins_token, is_token_byte, text_len, further_len, kept, quoted};
 
 use std::alloc::Global;

@@ -1,7 +1,6 @@
 // The place of a field in a packet, by the field's name.
 
-ghost use Rattle.std.specs.Prelude.{◌≡◌, ◌^◌, map};
-ghost use Rattle.std.specs.List.{find};
+ghost use Rattle.std.specs.Prelude.{◌≡◌, ◌^◌};
 ghost use Rattle.trex_fields.specs.Fields.{base_of, place_by_name};
 ghost use Rattle.trex_layers.specs.Layers.{BeginBelow};
 

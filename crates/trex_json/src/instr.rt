@@ -1,12 +1,11 @@
 // The instructions of a stream.
 
-ghost use Rattle.std.specs.Prelude.{◌≡◌, ◌≤◌, ◌-◌, ◌^◌, List, length, map, All, Option, None, Some, IfOk, IfSome, option_map, if◌then◌else◌};
+ghost use Rattle.std.specs.Prelude.{◌≡◌, ◌≤◌, ◌-◌, ◌^◌, length, map, All, Option, None, Some, IfOk, IfSome, option_map, if◌then◌else◌};
 ghost use Rattle.serde_json.specs.View.{view};
 ghost use Rattle.trex_fields.specs.Bytes.{IsSize};
 ghost use Rattle.trex_profile.specs.Answer.{Gives};
 ghost use Rattle.trex_profile.specs.Instruction.{instruction, IsRawInstr, FixIpv4};
 ghost use Rattle.trex_profile.specs.Order.{first_each, unless};
-ghost use Rattle.trex_profile.specs.Refusal.{rule_there};
 ghost use Rattle.trex_json.specs.Kinds.{place_of_text};
 ghost use Rattle.trex_json.specs.Names.{told};
 ghost use Rattle.trex_json.specs.Operands.{flow_var_wrong, flow_var, rand_limit_wrong, rand_limit, tuple_wrong, tuple, write_wrong, write, write_mask_wrong, write_mask, fix_hw_wrong, fix_hw, operands_wrong, instruction_by, instr_rules, instruction_of};

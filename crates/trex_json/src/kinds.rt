@@ -2,8 +2,7 @@ ghost use Rattle.std.specs.Prelude.{◌≡◌, ◌⊎◌, ◌≤◌, ◌<◌, �
 ghost use Rattle.std.specs.Option.{ForSome};
 ghost use Rattle.serde_json.specs.View.{view};
 ghost use Rattle.trex_fields.specs.Bytes.{IsSize};
-ghost use Rattle.serde_json.specs.Find.{as_bool};
-ghost use Rattle.trex_json.specs.Kinds.{an_object, an_array, at_most, whole, scaled, decimal, id_of, next_id, mode_of_word, mode_word, rate_of_word, rate_kind, latency_word, a_size, a_segment, a_signed, shift_of, a_shift, an_op, instr_word, layer_word, a_mac, an_address};
+ghost use Rattle.trex_json.specs.Kinds.{an_object, an_array, whole, scaled, decimal, id_of, next_id, mode_word, rate_kind, latency_word, a_size, a_segment, a_signed, shift_of, a_shift, an_op, instr_word, layer_word, a_mac, an_address};
 
 use crate::addresses::{address_of, mac_of};
 use serde_json::Value;

@@ -2,7 +2,6 @@
 
 ghost use Rattle.std.specs.Prelude.{◌≡◌, ℕ, ◌%◌, ◌<◌, ◌==◌, ◌↔◌, ◌⊎◌, [], List, length, map, slice_get};
 ghost use Rattle.std.specs.List.{AllByRecursion, filter};
-ghost use Rattle.trex_merge.specs.declared.next.Next.{Next};
 ghost use Rattle.trex_merge.specs.declared.next.Next.TheVariants.{End, Need, Packet};
 ghost use Rattle.trex_merge.specs.Frames.{Frame, key_of, sequence, share, shares};
 ghost use Rattle.trex_merge.specs.Machine.{Emit, Event, HaveShares, IsEnded, IsMill, IsPrefixOf, MillState, Refill, happens, next_in, run, start};

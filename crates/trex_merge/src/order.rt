@@ -1,6 +1,6 @@
 // The laws of the order.
 
-ghost use Rattle.std.specs.Prelude.{◌≡◌, [], ◌∷◌, ℕ, Bool, List, Option, Some, slice_get, slice_set};
+ghost use Rattle.std.specs.Prelude.{◌≡◌, [], ◌∷◌, ℕ, Bool, List, Some, slice_get, slice_set};
 ghost use Rattle.std.specs.List.{AllByRecursion, filter};
 ghost use Rattle.trex_merge.specs.Order.{AreDistinct, BeginsNotBefore, ComesBefore, HaveSame, IsRising, joined, ordered};
 

@@ -1,4 +1,4 @@
-ghost use Rattle.std.specs.Prelude.{◌≡◌, ℕ, ◌+◌, ◌*◌, ◌^◌, ◌≤◌, if◌then◌else◌, length, IfOk, IfErr};
+ghost use Rattle.std.specs.Prelude.{◌≡◌, ◌+◌, ◌*◌, ◌^◌, ◌≤◌, if◌then◌else◌, length, IfOk, IfErr};
 ghost use Rattle.trex_pcap.specs.Following.{IsOfCapture, ReadsHead};
 ghost use Rattle.trex_pcap.specs.Reading.{format_in, fractions, number_at, opening};
 

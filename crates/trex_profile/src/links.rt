@@ -1,6 +1,6 @@
 ghost use Rattle.std.specs.Prelude.{◌≡◌, ℕ, ◌≤◌, ◌<◌, map, length, IfOk, Some, None, Err};
 ghost use Rattle.trex_profile.specs.Cross.{duplicate_refusal, lost_refusal, is_lost};
-ghost use Rattle.trex_profile.specs.Links.{ids, place_of, is_endless, if_enabled, effective_next, links};
+ghost use Rattle.trex_profile.specs.Links.{ids, is_endless, effective_next, links};
 ghost use Rattle.trex_profile.specs.Member.{member_stream};
 ghost use Rattle.trex_profile.specs.Order.{first_each};
 ghost use Rattle.trex_profile.specs.Visits.{IsLink, link_at};

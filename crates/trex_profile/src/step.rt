@@ -1,6 +1,6 @@
 // What a stream's instructions come to in a program.
 
-ghost use Rattle.std.specs.Prelude.{◌≡◌, ◌≤◌, ◌++◌, ◌^◌, ℕ, length, map, option_map, IfOk, IfSome, None};
+ghost use Rattle.std.specs.Prelude.{◌≡◌, ◌≤◌, ◌++◌, ◌^◌, length, map, option_map, IfOk, IfSome, None};
 ghost use Rattle.std.specs.Option.{option_to_list};
 ghost use Rattle.trex_layers.specs.Layers.{BeginBelow};
 ghost use Rattle.trex_vars.specs.Check.{fault_of};
@@ -12,7 +12,7 @@ ghost use Rattle.trex_profile.specs.Given.{given_of};
 ghost use Rattle.trex_profile.specs.InstrRules.{range_rule, unknown_rule};
 ghost use Rattle.trex_profile.specs.Instruction.{instruction};
 ghost use Rattle.trex_profile.specs.Order.{first_each, unless};
-ghost use Rattle.trex_profile.specs.Steps.{variable_at, variables_from, byte_at, write_at, fixes, resolved, step, instrs_of, program_of};
+ghost use Rattle.trex_profile.specs.Steps.{variable_at, variables_from, byte_at, write_at, fixes, resolved, step, program_of};
 
 use crate::fault::StreamFault;
 use crate::given::{GivenName, operand_of};

@@ -1,6 +1,6 @@
 // The bytes that each stream of the sample sends.
 
-ghost use Rattle.std.specs.Prelude.{◌≡◌, ◌≤◌, ◌+◌, length, IfOk};
+ghost use Rattle.std.specs.Prelude.{◌≡◌, ◌≤◌, ◌+◌, IfOk};
 ghost use Rattle.trex_sample.specs.Template.{ipv4, udp_sum, udp, template};
 
 use byteorder::{BigEndian, ByteOrder};

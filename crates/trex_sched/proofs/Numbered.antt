@@ -1,12 +1,12 @@
 -- The packets of a stream have all numbers from 0 on.
-use Rattle.std.proofs.Common.{◌≡◌, ℕ, zero, suc, ◌+◌, ◌-◌, ◌*◌, ◌==◌, ◌<◌, ◌≤◌, nat_lt, Bool, true, false, cond, List, [], ◌∷◌, ◌++◌, length, map, unwrap_or, Option, None, Some, refl, sym, ap, ◌∙◌, subst, arith, inl, inr}
+use Rattle.std.proofs.Common.{◌≡◌, ℕ, zero, suc, ◌+◌, ◌-◌, ◌*◌, ◌==◌, ◌<◌, ◌≤◌, nat_lt, Bool, true, false, cond, List, [], ◌∷◌, ◌++◌, length, map, unwrap_or, Option, Some, refl, sym, ap, ◌∙◌, subst, arith, inl, inr}
 use Rattle.std.proofs.lemmas.Bool.{cases_Bool, cases_lt}
 use Rattle.std.proofs.lemmas.Bool.Decides.{nat_tests}
 use Rattle.std.proofs.lemmas.List.{append-nil}
 use Rattle.std.proofs.lemmas.List.Elements.{filter-append}
 use Rattle.std.proofs.lemmas.List.Sums.{sum_by-append, sum_by-cons}
 use Rattle.std.proofs.Math.Nat.{add-mul}
-use Rattle.std.specs.List.{AllByRecursion, count_by, filter, flat_map, range_with_len, slice_get}
+use Rattle.std.specs.List.{AllByRecursion, count_by, flat_map, range_with_len, slice_get}
 use Rattle.trex_merge.specs.Order.{AreApart, ComesBefore, EachPair, Has, IsRising, ordered}
 use Rattle.trex_merge.proofs.Laws.{all_at, all-filter, filter-ordered, ordered_kept, pairs-filter}
 use Rattle.trex_merge.proofs.Lists.{all-append, pairs-append_right}
@@ -17,7 +17,7 @@ use Rattle.trex_sched.specs.Chain.{Chain, IsChain}
 use Rattle.trex_sched.specs.Entries.{entries, key_of, run_entries, slot_of}
 use Rattle.trex_sched.specs.Numbers.{AreNumbered, of_stream}
 use Rattle.trex_sched.specs.Runs.{runs}
-use Rattle.trex_sched.specs.Times.{HasPackets, size, span}
+use Rattle.trex_sched.specs.Times.{HasPackets, size}
 use Rattle.trex_sched.specs.ToCome.{IsReached}
 use Rattle.trex_sched.specs.Walks.{all_entries, HaveDistinctStreams}
 use Rattle.trex_sched.proofs.Following.{all_get}

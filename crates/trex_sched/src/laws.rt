@@ -1,6 +1,6 @@
 // The laws of the schedule.
 
-ghost use Rattle.std.specs.Prelude.{◌≡◌, ◌==◌, ◌∷◌, ◌++◌, ◌<◌, ◌≤◌, ℕ, nat_lt, count_by, List, map, Option, Some};
+ghost use Rattle.std.specs.Prelude.{◌≡◌, ◌==◌, ◌∷◌, ◌++◌, ◌<◌, ◌≤◌, ℕ, nat_lt, count_by, List, map, Some};
 ghost use Rattle.std.specs.List.{AllByRecursion, filter};
 ghost use Rattle.trex_merge.specs.Order.{AreDistinct, Has, IsRising, ordered};
 ghost use Rattle.trex_sched.specs.Chain.{Chain, IsChain};

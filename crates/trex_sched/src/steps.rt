@@ -2,11 +2,11 @@
 
 ghost use Rattle.std.specs.Prelude.{◌≡◌, ◌+◌, ◌*◌, ◌%◌, ◌^◌, ◌<◌, ◌≤◌, ℕ, unwrap_or, IfSome};
 ghost use Rattle.std.specs.Option.{option_and_then};
-ghost use Rattle.trex_sched.specs.Chain.{chain_of, IsChain};
+ghost use Rattle.trex_sched.specs.Chain.{chain_of};
 ghost use Rattle.trex_sched.specs.Entries.{run_entries, share};
 ghost use Rattle.trex_sched.specs.Runs.{run_after, run_at, run_at_next, run_below, stops as stops_with};
 ghost use Rattle.trex_sched.specs.Times.{HasPackets, size};
-ghost use Rattle.trex_sched.specs.ToCome.{IsReached, then_share};
+ghost use Rattle.trex_sched.specs.ToCome.{then_share};
 
 use crate::chain::ChainSpec;
 use crate::run::Run;

@@ -1,6 +1,6 @@
 // One core's packets of a chain, one after another.
 
-ghost use Rattle.std.specs.Prelude.{◌≡◌, ◌^◌, ◌<◌, ◌≤◌, ℕ, List, length, drop, slice_get};
+ghost use Rattle.std.specs.Prelude.{◌≡◌, ◌^◌, ◌<◌, ◌≤◌, List, length, drop, slice_get};
 ghost use Rattle.trex_sched.specs.declared.slot.Slot.{Slot as ASlot};
 ghost use Rattle.trex_sched.specs.Chain.{chain_of, IsChain};
 ghost use Rattle.trex_sched.specs.Entries.{entries, share};

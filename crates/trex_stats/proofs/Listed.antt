@@ -3,7 +3,7 @@ use Rattle.std.proofs.Common.{◌≡◌, ℕ, ◌+◌, ◌<◌, ◌≤◌, Bool,
 use Rattle.std.proofs.lemmas.Bool.{cases_lt, eq-eqb, ne_eqb, lt-ltb}
 use Rattle.std.proofs.lemmas.Bool.Decides.{nat_tests}
 use Rattle.std.proofs.lemmas.Map.Keys.{sorted_head, sorted_tail}
-use Rattle.std.specs.List.{AllByRecursion, cons_option, filter, list_any, range_with_len}
+use Rattle.std.specs.List.{AllByRecursion, cons_option, filter, range_with_len}
 use Rattle.std.specs.List.Sorted.{IsStrictlySortedBy}
 use Rattle.std.specs.Ordering.{nat_cmp}
 use Rattle.std.specs.declared.cmp.Ordering.TheVariants.{Less}
@@ -13,8 +13,8 @@ use Rattle.trex_stamp.specs.declared.header.Stamp.{Stamp}
 use Rattle.trex_stats.specs.declared.arrival.Arrival.{Arrival}
 use Rattle.trex_stats.specs.Counts.{stamp_at, arrival_of, arrival_in, arrivals, flow_numbers, flows_of}
 use Rattle.trex_stats.specs.Ranges.{has, Rises}
-use Rattle.trex_stats.proofs.Members.{here_or_there, both_ways, greatest_bounds}
-use Rattle.trex_stats.proofs.Spans.{cmp_same, cmp_more, has_after, has_below_all, has_inside, Rises-from, Rises-span}
+use Rattle.trex_stats.proofs.Members.{both_ways, greatest_bounds}
+use Rattle.trex_stats.proofs.Spans.{cmp_same, cmp_more, has_below_all, has_inside, Rises-from, Rises-span}
 
 -- ---- numbers that rise
 

@@ -1,4 +1,4 @@
-ghost use Rattle.std.specs.Prelude.{◌≡◌, ℕ, ◌+◌, ◌*◌, ◌^◌, ◌<◌, ◌≤◌, min, max, [], ◌∷◌, ◌++◌, List, if◌then◌else◌, ◌==◌};
+ghost use Rattle.std.specs.Prelude.{◌≡◌, ◌+◌, ◌*◌, ◌^◌, ◌<◌, ◌≤◌, min, max, [], ◌∷◌, ◌++◌, List, if◌then◌else◌, ◌==◌};
 ghost use Rattle.trex_stats.specs.declared.arrival.Arrival.{Arrival};
 
 /// What is kept of the latencies of a flow, in ns.

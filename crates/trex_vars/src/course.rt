@@ -1,6 +1,6 @@
 // The places that a variable runs through from packet to packet.
 
-ghost use Rattle.std.specs.Prelude.{◌≡◌, ◌+◌, ◌*◌, ◌<◌, ◌≤◌, ◌^◌, length, None};
+ghost use Rattle.std.specs.Prelude.{◌≡◌, ◌+◌, ◌*◌, ◌<◌, None};
 ghost use Rattle.trex_vars.specs.Check.{fault_of};
 ghost use Rattle.trex_vars.specs.Registers.{counter_course, course_of};
 ghost use Rattle.trex_vars.specs.Value.{back, flows};

@@ -1,6 +1,6 @@
 // The law of variables.
 
-ghost use Rattle.std.specs.Prelude.{◌≡◌, ℕ, Option, None};
+ghost use Rattle.std.specs.Prelude.{◌≡◌, ℕ, None};
 ghost use Rattle.trex_vars.specs.Bounds.{IsBetween, greatest, least};
 ghost use Rattle.trex_vars.specs.Check.{fault_of};
 ghost use Rattle.trex_vars.specs.Value.{value_at};

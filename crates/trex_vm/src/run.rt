@@ -1,10 +1,10 @@
 // Packets, made of a template.
 
-ghost use Rattle.std.specs.Prelude.{◌≡◌, ◌+◌, ◌-◌, ◌≤◌, List, ◌∷◌, ◌++◌, Bool, false, IsSome, is_some, All, length, take, drop};
+ghost use Rattle.std.specs.Prelude.{◌≡◌, ◌+◌, ◌-◌, ◌≤◌, List, ◌∷◌, ◌++◌, false, IsSome, is_some, All, length, take, drop};
 ghost use Rattle.std.specs.List.{list_any};
 ghost use Rattle.trex_fields.specs.Bytes.{put};
 ghost use Rattle.trex_stamp.specs.Stamp.{stamp_bytes};
-ghost use Rattle.trex_vm.specs.Packet.{wrote, applied, trimmed, stamped, front, packet};
+ghost use Rattle.trex_vm.specs.Packet.{wrote, applied, trimmed, stamped, packet};
 ghost use Rattle.trex_vm.specs.declared.instr.Instr.{Instr as AnInstr};
 ghost use Rattle.trex_vm.specs.Cover.{StaysFixed, HeaderVerifies};
 ghost use Rattle.trex_vm.specs.Rules.{writes_past, misses_header, touches_shape};

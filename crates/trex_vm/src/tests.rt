@@ -1,6 +1,6 @@
 // Expected bytes come from a second program, which adds by end-around carry.
 
-ghost use Rattle.std.specs.Prelude.{◌≡◌, ◌↔◌, All, IsTrue};
+ghost use Rattle.std.specs.Prelude.{◌↔◌, All, IsTrue};
 ghost use Rattle.trex_fields.specs.Bytes.{IsSize};
 ghost use Rattle.trex_vm.specs.Program.{IsFormed, TakesFrom};
 

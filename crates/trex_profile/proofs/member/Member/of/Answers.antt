@@ -1,4 +1,4 @@
-use Rattle.std.proofs.Common.{rules, ◌≡◌, ℕ, ◌<◌, ◌++◌, Bool, List, true, IfSome, length, map, ap, subst, sym, ◌∙◌, refl, is_some, arith, Option, None, Some, ◌%◌, ◌^◌}
+use Rattle.std.proofs.Common.{rules, ◌≡◌, ℕ, ◌<◌, ◌++◌, Bool, List, true, IfSome, map, ap, subst, sym, ◌∙◌, refl, is_some, arith, Option, None, Some, ◌%◌, ◌^◌}
 use Rattle.std.specs.Option.{option_map}
 use Rattle.trex_stamp.specs.declared.header.Stamp.{Stamp}
 use Rattle.trex_layers.specs.Layers.{parsed}
