@@ -16,7 +16,8 @@ use Rattle.trex_merge.specs.Machine.{Emit, HaveShares, IsEnded, IsMill, MillStat
 use Rattle.trex_merge.proofs.Kept.{emit_shares, start_shares}
 use Rattle.trex_merge.proofs.Events.{emit_keeps, next_in_sequence, run_keeps, start_is}
 use Rattle.trex_merge.proofs.Coming.{end_is_ended, packet_is_least}
-use Rattle.std.proofs.lemmas.List.{length-map, length-take-le, take-map}
+use Rattle.std.proofs.lemmas.List.{length-drop, length-map, length-take-le, take-map}
+use Rattle.std.proofs.lemmas.Option.{slice_get_within}
 use Rattle.trex_merge.specs.Order.{AreDistinct, IsRising, joined, ordered}
 use Rattle.trex_merge.specs.Queues.{Queue, all_waiting, is_needy, is_none_left, next_of, refilled, stem, waiting_at}
 use Rattle.trex_merge.proofs.Laws.{all_at, all_from, ordered_kept, same-ordered}
@@ -27,7 +28,7 @@ use Rattle.trex_top.specs.Capture.{sequence as run_sequence, tallies}
 use Rattle.trex_words.specs.declared.asked.RunAsk.{RunAsk}
 use Rattle.std.proofs.Math.Seq.{take-length}
 use Rattle.trex_top.specs.Counting.{counted}
-use Rattle.trex_top.specs.Ready.{CountsNext, IsEarly, IsReady, IsShort, Stand, all_of, coming, gone_to, first_work, first_works, queues_of}
+use Rattle.trex_top.specs.Ready.{CountsNext, IsEarly, IsReady, IsShort, Stand, all_of, coming, cores_of, gone_to, first_work, first_works, queues_of}
 use Rattle.trex_top.proofs.Counts.{tallies-more}
 use Rattle.trex_top.proofs.Schedule.{take-next}
 use Rattle.trex_crew.specs.Crews.{AreInOrder}
@@ -523,21 +524,37 @@ pub early_by : (d : ℕ) (frames : List Frame) → d ≤ 10 ^ 18 → AllByRecurs
 early_by d [] within all = tt
 early_by d (f ∷ frames) within all = let here = all.0 in (omega arith, early_by d frames within all.1)
 
--- the next packet of a run
-pub found_next : (s : Stand) (k : ℕ) (frame : Frame) → length s.state.sent ≡ k → slice_get (all_of s) (length s.state.sent) ≡ Some frame → slice_get (drop k (all_of s)) 0 ≡ Some frame
-found_next s k frame is there = drop_get k (all_of s) frame (ap (slice_get (all_of s)) (sym is) ∙ there)
-
--- where a packet comes next, one more was gone to
-pub seen_more : (state : MillState) (k : ℕ) → length state.sent ≡ k → is_packet (next_in state) ≡ true → seen state ≡ k + 1
-seen_more state k is packet = ap (λ n. n + (if is_packet (next_in state) then 1 else 0)) is ∙ ap (λ b. k + (if b then 1 else 0)) packet
-
--- and else none
+-- where nothing comes next, no more was gone to
 pub seen_same : (state : MillState) (k : ℕ) → length state.sent ≡ k → is_packet (next_in state) ≡ false → seen state ≡ k
 seen_same state k is none = ap (λ n. n + (if is_packet (next_in state) then 1 else 0)) is ∙ ap (λ b. k + (if b then 1 else 0)) none ∙ omega arith
 
 -- runs of one plan and one limit send the same
 pub all_same : (a b : Stand) → a.plan ≡ b.plan → a.state.limit ≡ b.state.limit → all_of a ≡ all_of b
 all_same a b plan limit = ap (λ n. sequence n (frames_of_plan a.plan)) limit ∙ ap (λ (p : PlanOf). sequence b.state.limit (frames_of_plan p)) plan
+
+-- a step to a packet of the run
+pub record WentTo (all : List Frame) (k n : ℕ) (frame : Frame) : Type 0 where
+  pub one : n ≡ k + 1
+  pub within : n ≤ length all
+  pub found : slice_get (drop k all) 0 ≡ Some frame
+
+pub went_to : (new old : Stand) (k : ℕ) (frame : Frame) → length new.state.sent ≡ k → is_packet (next_in new.state) ≡ true
+    → new.plan ≡ old.plan → new.state.limit ≡ old.state.limit → slice_get (all_of new) (length new.state.sent) ≡ Some frame
+    → WentTo (all_of old) k (seen new.state) frame
+went_to new old k frame is packet plan limit there =
+    let one : seen new.state ≡ k + 1 =
+    ap (λ n. n + (if is_packet (next_in new.state) then 1 else 0)) is ∙ ap (λ b. k + (if b then 1 else 0)) packet in
+    let found : slice_get (drop k (all_of old)) 0 ≡ Some frame =
+    rw (all_same new old plan limit) at (drop_get k (all_of new) frame (ap (slice_get (all_of new)) (sym is) ∙ there)) in
+    let left = slice_get_within (drop k (all_of old)) 0 frame found in
+    let long = length-drop k (all_of old) in
+    record { one = one; within = omega (arith, one, left, long); found = found }
+
+-- rounds that are enough for a run are enough for one that sends the same
+pub suffice_for : (new old : Stand) (rounds : ℕ) → cores_of new ≡ cores_of old → new.plan ≡ old.plan → new.state.limit ≡ old.state.limit
+    → Suffice (cores_of new) rounds (all_of new) → Suffice (cores_of old) rounds (all_of old)
+suffice_for new old rounds cores plan limit enough =
+    subst (λ n. Suffice n rounds (all_of old)) cores (subst (Suffice (cores_of new) rounds) (all_same new old plan limit) enough)
 
 -- ---- what a run sends is what the profile means
 

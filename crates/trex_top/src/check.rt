@@ -1,4 +1,4 @@
-ghost use Rattle.std.specs.Prelude.{length, IfOk, IfErr, OnOk};
+ghost use Rattle.std.specs.Prelude.{length, IfErr, OnOk};
 ghost use Rattle.std.specs.Io.KnownBytes.{IsAtEnd};
 ghost use Rattle.trex_io.specs.Texts.{Wrote};
 ghost use Rattle.trex_top.specs.Clauses.{OnProfile};

@@ -1,4 +1,4 @@
-ghost use Rattle.std.specs.Prelude.{◌≡◌, IfOk, IfErr, Ok, OnOk};
+ghost use Rattle.std.specs.Prelude.{IfOk, IfErr, Ok, OnOk};
 ghost use Rattle.std.specs.Io.KnownBytes.{IsAtEnd};
 ghost use Rattle.trex_top.specs.Clauses.{HasVerdict};
 ghost use Rattle.trex_top.specs.Making.{ReadingStops};

@@ -1,6 +1,6 @@
 // A run that is ready, and its steps.
 
-ghost use Rattle.std.specs.Prelude.{◌≡◌, ◌+◌, ◌≤◌, ◌<◌, ◌^◌, true, false, [], None, Some, IfOk, OnOk, length, map, slice_get, vec_len};
+ghost use Rattle.std.specs.Prelude.{◌≡◌, ◌+◌, ◌≤◌, ◌<◌, ◌^◌, true, false, [], None, Some, IfOk, OnOk, length, slice_get};
 ghost use Rattle.std.specs.List.{AllByRecursion};
 ghost use Rattle.trex_io.specs.Texts.{Writes};
 ghost use Rattle.trex_core.specs.Plan.{frames_of_plan};

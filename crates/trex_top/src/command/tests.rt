@@ -296,57 +296,6 @@ fn words_without_a_meaning_are_told(rt: HostRuntime) -> Result<(), Fail> {
     Ok(())
 }
 
-#[test]
-fn a_stream_that_fails_is_told(rt: HostRuntime) -> Result<(), Fail> {
-    let alloc = rt.alloc();
-    let thirds = burst(alloc, 3, "pps", "3")?;
-    let unread = run(
-        &rt,
-        alloc,
-        "run",
-        thirds.as_str(),
-        Failing { input: 1, ..NONE },
-    )?;
-    assert_left(&rt, &unread, Status::ReadFault, b"", b"read fault\n");
-    let unwritten = run(
-        &rt,
-        alloc,
-        "run",
-        thirds.as_str(),
-        Failing { out: 2, ..NONE },
-    )?;
-    assert_left(
-        &rt,
-        &unwritten,
-        Status::OutFault,
-        &CAPTURE[..10],
-        b"write fault\n",
-    );
-    let unreported = run(
-        &rt,
-        alloc,
-        "run",
-        thirds.as_str(),
-        Failing { notes: 1, ..NONE },
-    )?;
-    assert_left(
-        &rt,
-        &unreported,
-        Status::NotesFault,
-        CAPTURE.as_slice(),
-        b"",
-    );
-    let untold = run(
-        &rt,
-        alloc,
-        "check",
-        thirds.as_str(),
-        Failing { out: 1, ..NONE },
-    )?;
-    assert_left(&rt, &untold, Status::OutFault, b"", b"write fault\n");
-    Ok(())
-}
-
 /// Looks at what a profile of such entries sends.
 fn assert_sent<R: Abort + Threads + Sync>(
     rt: &R,

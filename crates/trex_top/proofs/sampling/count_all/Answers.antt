@@ -1,5 +1,4 @@
-use Rattle.std.proofs.Common.{◌≡◌, ◌+◌, length, take, drop, slice_get, Some, [], refl, sym, ap, ◌∙◌, subst, arith, append-nil, length-drop, rules}
-use Rattle.std.proofs.lemmas.Option.{slice_get_within}
+use Rattle.std.proofs.Common.{◌≡◌, ◌+◌, length, take, [], refl, sym, ap, ◌∙◌, arith, append-nil, rules}
 use Rattle.trex_merge.specs.Frames.{Frame, frame_of}
 use Rattle.trex_pcap.specs.Writing.{file_header}
 use Rattle.trex_sum.specs.declared.running.RunningSum.{RunningSum}
@@ -7,24 +6,19 @@ use Rattle.trex_sum.specs.Checksum.{fold_of}
 use Rattle.trex_sum.specs.Running.{running}
 use Rattle.trex_top.specs.Capture.{capture_text}
 use Rattle.trex_top.specs.Ready.{all_of, cores_of}
-use Rattle.trex_top.specs.Rounds.{Suffice}
 use Rattle.trex_top.specs.Steps.{seen}
 use Rattle.trex_top.proofs.Counted.{summed-more, bytes-more, counted-all}
-use Rattle.trex_top.proofs.Readying.{all_same, found_next, seen_more}
+use Rattle.trex_top.proofs.Readying.{all_same, suffice_for, went_to}
 use Rattle.trex_top.proofs.Telling.{tell_nothing, tell_on}
 use Rattle.trex_top.proofs.sampling.count_all.Goals as goal
 
 pub packets-smaller : goal.packets-smaller
 packets-smaller g c =
-    let all = all_of c.args.ready.now in
-    let k = seen c.packets.ready.state in
-    let more = seen_more c.step.new.self.state k c.step.ensures.sent (sym c.step.ensures.more ∙ c.packets-test.true) in
-    let same = all_same c.step.new.self c.args.ready.now (c.step.ensures.plan ∙ c.packets.invariant.plan) (c.step.ensures.limit ∙ c.packets.invariant.limit) in
-    let found : slice_get (drop k all) 0 ≡ Some (frame_of c.current-head.result) =
-    rw same at (found_next c.step.new.self k (frame_of c.current-head.result) c.step.ensures.sent c.current-head.ensures.packet) in
-    let left = slice_get_within (drop k all) 0 (frame_of c.current-head.result) found in
-    let long = length-drop k all in
-    omega (arith, more, left, long)
+    let went = went_to c.step.new.self c.args.ready.now (seen c.packets.ready.state) (frame_of c.current-head.result) c.step.ensures.sent
+    (sym c.step.ensures.more ∙ c.packets-test.true) (c.step.ensures.plan ∙ c.packets.invariant.plan) (c.step.ensures.limit ∙ c.packets.invariant.limit) c.current-head.ensures.packet in
+    let one = went.one in
+    let within = went.within in
+    omega (arith, one, within)
 
 pub packets-preserved : goal.packets-preserved
 packets-preserved g c =
@@ -32,14 +26,10 @@ packets-preserved g c =
     let k = seen c.packets.ready.state in
     let n = seen c.step.new.self.state in
     let frame : Frame = frame_of c.current-head.result in
-    let more : n ≡ k + 1 = seen_more c.step.new.self.state k c.step.ensures.sent (sym c.step.ensures.more ∙ c.packets-test.true) in
     let plan = c.step.ensures.plan ∙ c.packets.invariant.plan in
     let limit = c.step.ensures.limit ∙ c.packets.invariant.limit in
-    let same = all_same c.step.new.self c.args.ready.now plan limit in
-    let found : slice_get (drop k all) 0 ≡ Some frame =
-    rw same at (found_next c.step.new.self k frame c.step.ensures.sent c.current-head.ensures.packet) in
-    let left = slice_get_within (drop k all) 0 frame found in
-    let long = length-drop k all in
+    let went = went_to c.step.new.self c.args.ready.now k frame c.step.ensures.sent (sym c.step.ensures.more ∙ c.packets-test.true) plan limit c.current-head.ensures.packet in
+    let one = went.one in
     let short = c.current-head.ensures.short in
     let bound = c.add_record.ensures.bound in
     let room = c.packets.invariant.room in
@@ -48,12 +38,12 @@ packets-preserved g c =
     record {
       plan = plan;
       limit = limit;
-      within = omega (arith, more, left, long);
-      summed = c.add_record.ensures.value (capture_text 0 (take k all)) c.packets.invariant.summed ∙ ap running (summed-more all k n frame found more);
-      room = omega (arith, more, short, bound, room);
-      packets = omega (arith, more, packets);
-      bytes = ap (λ b. b + length frame.bytes) c.packets.invariant.bytes ∙ bytes-more all k n frame found more;
-      small = omega (arith, more, short, small);
+      within = went.within;
+      summed = c.add_record.ensures.value (capture_text 0 (take k all)) c.packets.invariant.summed ∙ ap running (summed-more all k n frame went.found one);
+      room = omega (arith, one, short, bound, room);
+      packets = omega (arith, one, packets);
+      bytes = ap (λ b. b + length frame.bytes) c.packets.invariant.bytes ∙ bytes-more all k n frame went.found one;
+      small = omega (arith, one, short, small);
       cores = c.step.ensures.cores ∙ c.packets.invariant.cores;
       told = tell_on g.G.Gate.entries (cores_of c.args.ready.now) (cores_of c.packets.ready) c.args.ready.now.rounds c.packets.ready.rounds c.step.new.self.rounds
           c.args.gates.now c.packets.gates c.step.new.gates c.packets.invariant.cores c.packets.auto.gates c.packets.invariant.told c.step.ensures.gates;
@@ -90,7 +80,5 @@ returns-clause-gates g c =
 
 pub returns-clause-suffice : goal.returns-clause-suffice
 returns-clause-suffice g c =
-    let old = c.packets.ready in
-    let same = all_same old c.args.ready.now c.packets.invariant.plan c.packets.invariant.limit in
-    subst (λ n. Suffice n c.step.new.self.rounds (all_of c.args.ready.now)) c.packets.invariant.cores
-    (subst (Suffice (cores_of old) c.step.new.self.rounds) same (c.step.ensures.suffice c.packets-test.false))
+    suffice_for c.packets.ready c.args.ready.now c.step.new.self.rounds c.packets.invariant.cores c.packets.invariant.plan c.packets.invariant.limit
+    (c.step.ensures.suffice c.packets-test.false)

@@ -1,16 +1,14 @@
-use Rattle.std.proofs.Common.{◌≡◌, ℕ, ◌+◌, ◌*◌, ◌^◌, List, ◌++◌, length, take, drop, slice_get, Some, refl, sym, ap, ◌∙◌, subst, arith, length-drop, rules}
+use Rattle.std.proofs.Common.{◌≡◌, ℕ, ◌+◌, ◌*◌, ◌^◌, List, ◌++◌, length, take, refl, sym, ap, ◌∙◌, subst, arith, rules}
 use Rattle.std.proofs.Math.Seq.{take-length}
-use Rattle.std.proofs.lemmas.Option.{slice_get_within}
 use Rattle.trex_io.specs.Texts.{WrotePart}
 use Rattle.trex_pcap.specs.Writing.{record_of}
 use Rattle.trex_merge.specs.Frames.{Frame, frame_of}
 use Rattle.trex_top.specs.Capture.{capture_text, packet_at}
 use Rattle.trex_top.specs.Pieces.{Gathers}
 use Rattle.trex_top.specs.Ready.{all_of, cores_of}
-use Rattle.trex_top.specs.Rounds.{Suffice}
 use Rattle.trex_top.specs.Steps.{seen}
 use Rattle.trex_top.proofs.Gathering.{Gathers-more, Gathers-part, capture_of-more, capture_of-front}
-use Rattle.trex_top.proofs.Readying.{all_same, found_next, seen_more}
+use Rattle.trex_top.proofs.Readying.{suffice_for, went_to}
 use Rattle.trex_top.proofs.Schedule.{take-next}
 use Rattle.trex_top.proofs.Telling.{tell_nothing, tell_on}
 use Rattle.trex_top.proofs.writing.gather_all.Goals as goal
@@ -43,15 +41,11 @@ returns-in-Err-clause-part g c =
 
 pub packets-smaller : goal.packets-smaller
 packets-smaller g c =
-    let all = all_of c.args.progress.now in
-    let k = seen c.packets.progress.state in
-    let more = seen_more c.step.new.self.state k c.step.ensures.sent (sym c.step.ensures.more ∙ c.packets-test.true) in
-    let same = all_same c.step.new.self c.args.progress.now (c.step.ensures.plan ∙ c.packets.invariant.plan) (c.step.ensures.limit ∙ c.packets.invariant.limit) in
-    let found : slice_get (drop k all) 0 ≡ Some (frame_of c.current-head.result) =
-    rw same at (found_next c.step.new.self k (frame_of c.current-head.result) c.step.ensures.sent c.current-head.ensures.packet) in
-    let left = slice_get_within (drop k all) 0 (frame_of c.current-head.result) found in
-    let long = length-drop k all in
-    omega (arith, more, left, long)
+    let went = went_to c.step.new.self c.args.progress.now (seen c.packets.progress.state) (frame_of c.current-head.result) c.step.ensures.sent
+    (sym c.step.ensures.more ∙ c.packets-test.true) (c.step.ensures.plan ∙ c.packets.invariant.plan) (c.step.ensures.limit ∙ c.packets.invariant.limit) c.current-head.ensures.packet in
+    let one = went.one in
+    let within = went.within in
+    omega (arith, one, within)
 
 pub packets-preserved : goal.packets-preserved
 packets-preserved g c =
@@ -59,27 +53,23 @@ packets-preserved g c =
     let k = seen c.packets.progress.state in
     let frame : Frame = frame_of c.current-head.result in
     let f = packet_at c.args.base in
-    let more = seen_more c.step.new.self.state k c.step.ensures.sent (sym c.step.ensures.more ∙ c.packets-test.true) in
     let plan = c.step.ensures.plan ∙ c.packets.invariant.plan in
     let limit = c.step.ensures.limit ∙ c.packets.invariant.limit in
-    let same = all_same c.step.new.self c.args.progress.now plan limit in
-    let found : slice_get (drop k all) 0 ≡ Some frame =
-    rw same at (found_next c.step.new.self k frame c.step.ensures.sent c.current-head.ensures.packet) in
-    let left = slice_get_within (drop k all) 0 frame found in
-    let long = length-drop k all in
+    let went = went_to c.step.new.self c.args.progress.now k frame c.step.ensures.sent (sym c.step.ensures.more ∙ c.packets-test.true) plan limit c.current-head.ensures.packet in
+    let one = went.one in
     let gathered = Gathers-more g.O.Sink.held c.args.out.now c.packets.out c.gather.new.out c.packets.piece.items _ _ c.gather.new.piece.items
     c.packets.invariant.gathered c.in_default.ensures.gathers in
     let text = capture_text c.args.base (take k all) in
     let record_same : record_of (record { time = c.from-base.result * 10 ^ 9 + c.current-head.result.time; bytes = c.current-head.result.bytes.now }) ≡ record_of (f frame) =
     rw c.from-base.ensures refl in
     let goes : text ++ record_of (f frame) ≡ capture_text c.args.base (take (seen c.step.new.self.state) all) =
-    sym (capture_of-more f (take k all) frame) ∙ ap (capture_text c.args.base) (sym (take-next k all frame found))
-    ∙ ap (λ n. capture_text c.args.base (take n all)) (sym more) in
+    sym (capture_of-more f (take k all) frame) ∙ ap (capture_text c.args.base) (sym (take-next k all frame went.found))
+    ∙ ap (λ n. capture_text c.args.base (take n all)) (sym one) in
     record {
       plan = plan;
       limit = limit;
       gathered = subst (λ (t : List ℕ). Gathers g.O.Sink.held c.args.out.now c.gather.new.out c.gather.new.piece.items t) (ap (λ r. text ++ r) record_same ∙ goes) gathered;
-      within = omega (arith, more, left, long);
+      within = went.within;
       capacity = c.gather.ensures.capacity;
       cores = c.step.ensures.cores ∙ c.packets.invariant.cores;
       told = tell_on g.G.Gate.entries (cores_of c.args.progress.now) (cores_of c.packets.progress) c.args.progress.now.rounds c.packets.progress.rounds c.step.new.self.rounds
@@ -111,7 +101,5 @@ returns-clause-gates g c =
 
 pub returns-clause-suffice : goal.returns-clause-suffice
 returns-clause-suffice g c =
-    let old = c.packets.progress in
-    let same = all_same old c.args.progress.now c.packets.invariant.plan c.packets.invariant.limit in
-    subst (λ n. Suffice n c.step.new.self.rounds (all_of c.args.progress.now)) c.packets.invariant.cores
-    (subst (Suffice (cores_of old) c.step.new.self.rounds) same (c.step.ensures.suffice c.packets-test.false))
+    suffice_for c.packets.progress c.args.progress.now c.step.new.self.rounds c.packets.invariant.cores c.packets.invariant.plan c.packets.invariant.limit
+    (c.step.ensures.suffice c.packets-test.false)

@@ -8,7 +8,7 @@ use std::test::Fail;
 use std::thread::Threads;
 
 /// A capture of five packets of flow 7, in microseconds and with the highest byte of each number first.
-fn five(alloc: Global) -> Result<Vec<u8>, Fail> {
+pub(super) fn five(alloc: Global) -> Result<Vec<u8>, Fail> {
     let header = b"\xa1\xb2\xc3\xd4\0\x02\0\x04\0\0\0\0\0\0\0\0\0\0\xff\xff\0\0\0\x01";
     let mut bytes = Vec::from_slice(alloc, header)?;
     for (fraction, sequence) in [(1, 0), (2, 2), (3, 1), (4, 2), (5, 5)] {
@@ -20,7 +20,7 @@ fn five(alloc: Global) -> Result<Vec<u8>, Fail> {
     Ok(bytes)
 }
 
-const FIVE: &str =
+pub(super) const FIVE: &str =
     "flow 7 received 5 duplicates 1 lost 2 reordered 1 early 0 least 1000 greatest 5000 sum 15000\n\
 records 5 bytes 80 stamped 5\n";
 
@@ -51,34 +51,7 @@ fn a_capture_of_a_flow_is_counted(rt: HostRuntime) -> Result<(), Fail> {
     assert_analysis(&rt, alloc, &five, Status::Done, FIVE, "")?;
     assert_analysis(&rt, alloc, part, Status::BadCapture, "", torn)?;
     assert_analysis(&rt, alloc, b"", Status::BadCapture, "", empty)?;
-    assert_analysis(&rt, alloc, CAPTURE, Status::Done, two, "")?;
-    for input in 1..13 {
-        let ran = feed(
-            &rt,
-            alloc,
-            "analyze",
-            &five,
-            1000,
-            Failing { input, ..NONE },
-        )?;
-        assert_left(&rt, &ran, Status::ReadFault, b"", b"read fault\n");
-    }
-    let unwritten = feed(
-        &rt,
-        alloc,
-        "analyze",
-        &five,
-        1000,
-        Failing { out: 2, ..NONE },
-    )?;
-    assert_left(
-        &rt,
-        &unwritten,
-        Status::OutFault,
-        b"flow 7 rec",
-        b"write fault\n",
-    );
-    Ok(())
+    assert_analysis(&rt, alloc, CAPTURE, Status::Done, two, "")
 }
 
 #[test]
@@ -168,17 +141,16 @@ records 7 bytes 210 stamped 7\n";
     Ok(())
 }
 
-#[test]
-fn help_is_written_and_nothing_is_read(rt: HostRuntime) -> Result<(), Fail> {
-    let help = b"trex run [--duration n] [--limit n] [--cores n] [--base n]\n\
+pub(super) const HELP: &[u8] = b"trex run [--duration n] [--limit n] [--cores n] [--base n]\n\
 trex check\n\
 trex analyze\n\
 trex sample --seed n [--streams n] [--duration n] [--limit n] [--cores n]\n\
 trex help\n";
-    let alloc = rt.alloc();
-    let ran = run(&rt, alloc, "help", "[", Failing { input: 1, ..NONE })?;
-    assert_left(&rt, &ran, Status::Done, help, b"");
-    let unwritten = run(&rt, alloc, "help", "[", Failing { out: 1, ..NONE })?;
-    assert_left(&rt, &unwritten, Status::OutFault, b"", b"write fault\n");
+
+#[test]
+fn help_is_written_and_nothing_is_read(rt: HostRuntime) -> Result<(), Fail> {
+    let failing = Failing { input: 1, ..NONE };
+    let ran = run(&rt, rt.alloc(), "help", "[", failing)?;
+    assert_left(&rt, &ran, Status::Done, HELP, b"");
     Ok(())
 }

@@ -2,6 +2,7 @@
 
 ghost use Rattle.std.specs.Prelude.{◌≤◌};
 
+use super::captures::{FIVE, HELP, five};
 use super::{CAPTURE, Ends, Failing, NONE, REPORT, Ran, assert_left, burst, run_over};
 use crate::Status;
 use std::alloc::Global;
@@ -14,6 +15,9 @@ use trex_pcap::{header, record_header};
 /// How many bytes the captures here may have.
 const SMALL_ROOM: usize = 20_000;
 
+/// What is written of the first three packets of a sample.
+const SAMPLE: &[u8] = b"sample seed 1 streams 1 packets 3 bytes 2394 sum f4e5\n";
+
 /// How many bytes a profile's text may have.
 const LONGEST: usize = 33_554_432;
 
@@ -22,7 +26,7 @@ fn run<R: Threads + Sync>(
     rt: &R,
     alloc: Global,
     line: &str,
-    text: &str,
+    bytes: &[u8],
     step: usize,
     failing: Failing,
 ) -> Result<Ran, Fail>
@@ -33,15 +37,7 @@ fn run<R: Threads + Sync>(
         written: step,
         room: SMALL_ROOM,
     };
-    run_over(
-        rt,
-        alloc,
-        line,
-        text.as_bytes(),
-        ends,
-        failing,
-        &mut [Open; 2],
-    )
+    run_over(rt, alloc, line, bytes, ends, failing, &mut [Open; 2])
 }
 
 /// Text, so many times over.
@@ -53,39 +49,109 @@ fn repeated(alloc: Global, text: &str, count: usize) -> Result<String, Fail> {
     Ok(all)
 }
 
+/// A line of words with the bytes that it may read, the number of its reads at a byte a call, and all that it writes.
+struct Case<'a> {
+    line: &'a str,
+    input: &'a [u8],
+    reads: usize,
+    out: &'a [u8],
+    notes: &'a [u8],
+}
+
+/// Runs a case, a byte a call.
+fn try_case<R: Threads + Sync>(
+    rt: &R,
+    alloc: Global,
+    case: &Case<'_>,
+    failing: Failing,
+) -> Result<Ran, Fail> {
+    run(rt, alloc, case.line, case.input, 1, failing)
+}
+
+/// Looks at what is left where one call fails, whichever it is: where a read fails nothing, and else what stood before.
+fn assert_faults<R: Abort + Threads + Sync>(
+    rt: &R,
+    alloc: Global,
+    case: &Case<'_>,
+) -> Result<(), Fail> {
+    let Case { out, notes, .. } = *case;
+    let whole = try_case(rt, alloc, case, NONE)?;
+    assert_left(rt, &whole, Status::Done, out, notes);
+    for input in (1..).take(case.reads) {
+        let ran = try_case(rt, alloc, case, Failing { input, ..NONE })?;
+        assert_left(rt, &ran, Status::ReadFault, b"", b"read fault\n");
+    }
+    for (before, call) in (0..out.len()).zip(1..) {
+        let ran = try_case(rt, alloc, case, Failing { out: call, ..NONE })?;
+        let left = &out[..before];
+        assert_left(rt, &ran, Status::OutFault, left, b"write fault\n");
+    }
+    for (before, call) in (0..notes.len()).zip(1..) {
+        let ran = try_case(
+            rt,
+            alloc,
+            case,
+            Failing {
+                notes: call,
+                ..NONE
+            },
+        )?;
+        assert_left(rt, &ran, Status::NotesFault, out, &notes[..before]);
+    }
+    Ok(())
+}
+
 #[test]
-fn each_write_of_a_run_that_fails_leaves_what_stood_before(rt: HostRuntime) -> Result<(), Fail> {
+fn each_read_and_write_that_fails_has_its_answer(rt: HostRuntime) -> Result<(), Fail> {
     let alloc = rt.alloc();
     let thirds = burst(alloc, 3, "pps", "3")?;
-    let text = thirds.as_str();
-    for call in 1..=CAPTURE.len() {
-        let failing = Failing {
-            out: call as u64,
-            ..NONE
-        };
-        let ran = run(&rt, alloc, "run", text, 1, failing)?;
-        assert_left(
-            &rt,
-            &ran,
-            Status::OutFault,
-            &CAPTURE[..call - 1],
-            b"write fault\n",
-        );
+    let five = five(alloc)?;
+    for case in [
+        Case {
+            line: "run",
+            input: thirds.as_bytes(),
+            reads: thirds.len() + 1,
+            out: CAPTURE,
+            notes: REPORT,
+        },
+        Case {
+            line: "check",
+            input: thirds.as_bytes(),
+            reads: thirds.len() + 1,
+            out: b"accepted streams 1\n",
+            notes: b"",
+        },
+        Case {
+            line: "analyze",
+            input: &five,
+            reads: 185,
+            out: FIVE.as_bytes(),
+            notes: b"",
+        },
+        Case {
+            line: "sample --seed 1 --streams 1 --limit 3",
+            input: b"[",
+            reads: 0,
+            out: SAMPLE,
+            notes: b"",
+        },
+        Case {
+            line: "help",
+            input: b"[",
+            reads: 0,
+            out: HELP,
+            notes: b"",
+        },
+    ] {
+        assert_faults(&rt, alloc, &case)?;
     }
-    for call in 1..=REPORT.len() {
-        let failing = Failing {
-            notes: call as u64,
-            ..NONE
-        };
-        let ran = run(&rt, alloc, "run", text, 1, failing)?;
-        assert_left(
-            &rt,
-            &ran,
-            Status::NotesFault,
-            CAPTURE.as_slice(),
-            &REPORT[..call - 1],
-        );
-    }
+    Ok(())
+}
+
+#[test]
+fn a_full_output_keeps_what_it_has_room_for(rt: HostRuntime) -> Result<(), Fail> {
+    let alloc = rt.alloc();
+    let thirds = burst(alloc, 3, "pps", "3")?;
     let ends = Ends {
         read: 1,
         written: 1,
@@ -95,7 +161,7 @@ fn each_write_of_a_run_that_fails_leaves_what_stood_before(rt: HostRuntime) -> R
         &rt,
         alloc,
         "run",
-        text.as_bytes(),
+        thirds.as_bytes(),
         ends,
         NONE,
         &mut [Open; 2],
@@ -110,45 +176,6 @@ fn each_write_of_a_run_that_fails_leaves_what_stood_before(rt: HostRuntime) -> R
     Ok(())
 }
 
-#[test]
-fn each_write_of_a_check_that_fails_leaves_what_stood_before(rt: HostRuntime) -> Result<(), Fail> {
-    let alloc = rt.alloc();
-    let thirds = burst(alloc, 3, "pps", "3")?;
-    let line = b"accepted streams 1\n";
-    for call in 1..=line.len() {
-        let failing = Failing {
-            out: call as u64,
-            ..NONE
-        };
-        let ran = run(&rt, alloc, "check", thirds.as_str(), 1, failing)?;
-        assert_left(
-            &rt,
-            &ran,
-            Status::OutFault,
-            &line[..call - 1],
-            b"write fault\n",
-        );
-    }
-    Ok(())
-}
-
-#[test]
-fn each_read_that_fails_is_told(rt: HostRuntime) -> Result<(), Fail> {
-    let alloc = rt.alloc();
-    let thirds = burst(alloc, 3, "pps", "3")?;
-    for command in ["run", "check"] {
-        for call in 1..=thirds.len() + 1 {
-            let failing = Failing {
-                input: call as u64,
-                ..NONE
-            };
-            let ran = run(&rt, alloc, command, thirds.as_str(), 1, failing)?;
-            assert_left(&rt, &ran, Status::ReadFault, b"", b"read fault\n");
-        }
-    }
-    Ok(())
-}
-
 /// Looks at what is said of a profile.
 fn assert_check<R: Abort + Threads + Sync>(
     rt: &R,
@@ -156,7 +183,7 @@ fn assert_check<R: Abort + Threads + Sync>(
     text: &str,
     said: &str,
 ) -> Result<(), Fail> {
-    let ran = run(rt, alloc, "check", text, LONGEST, NONE)?;
+    let ran = run(rt, alloc, "check", text.as_bytes(), LONGEST, NONE)?;
     if ran.status == Status::Done {
         assert_left(rt, &ran, Status::Done, said.as_bytes(), b"");
     } else {
@@ -236,7 +263,7 @@ fn the_slowest_rate_sends_one_packet(rt: HostRuntime) -> Result<(), Fail> {
         r#"[{{"stream_id":1,"stream":{{"packet":{{"binary":"{zeros}"}},"mode":{{"type":"multi_burst","pkts_per_burst":4294967295,"count":4294967295,"rate":{{"type":"bps_L2","value":0.000001}}}}}}}}]"#
     )?;
     let line = "run --duration 1000000000000000000";
-    let ran = run(&rt, alloc, line, text.as_str(), LONGEST, NONE)?;
+    let ran = run(&rt, alloc, line, text.as_bytes(), LONGEST, NONE)?;
     let mut sent = Vec::from_slice(alloc, &header())?;
     sent.extend_from_slice(&record_header(0, 9_216))?;
     sent.extend_from_slice(&[0; 9_216])?;

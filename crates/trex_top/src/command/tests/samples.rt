@@ -1,6 +1,5 @@
 // The line of a sample, and the packets that it sums up.
 
-ghost use Rattle.std.specs.Prelude.{◌≡◌};
 ghost use Rattle.trex_words.specs.Asked.{IsRunAsk};
 
 use super::{Failing, NONE, assert_left, run};
@@ -35,21 +34,10 @@ fn a_sample_is_one_line_whatever_the_cores(rt: HostRuntime) -> Result<(), Fail> 
             large,
         ),
     ] {
-        let ran = run(&rt, alloc, line, "", NONE)?;
+        let failing = Failing { input: 1, ..NONE };
+        let ran = run(&rt, alloc, line, "", failing)?;
         assert_left(&rt, &ran, Status::Done, text.as_bytes(), b"");
     }
-    Ok(())
-}
-
-#[test]
-fn a_failed_write_leaves_a_part_of_the_line(rt: HostRuntime) -> Result<(), Fail> {
-    let failing = Failing {
-        input: 1,
-        out: 2,
-        notes: 0,
-    };
-    let ran = run(&rt, rt.alloc(), "sample --seed 1 --limit 1", "", failing)?;
-    assert_left(&rt, &ran, Status::OutFault, b"sample see", b"write fault\n");
     Ok(())
 }
 
