@@ -1,5 +1,5 @@
 -- How long headers and packets are.
-use Rattle.std.proofs.Common.{◌≡◌, ℕ, ◌+◌, nat_le, nat_lt, true, false, if◌then◌else◌, List, [], ◌∷◌, length, slice_get, sum_by, Option, None, Some, refl, ap, ◌∙◌, arith, length-append}
+use Rattle.std.proofs.Common.{◌≡◌, ℕ, ◌+◌, nat_le, nat_lt, true, if◌then◌else◌, List, [], ◌∷◌, length, slice_get, sum_by, Option, None, Some, refl, ap, ◌∙◌, arith, length-append}
 use Rattle.std.proofs.lemmas.List.Sums.{sum_by-cons}
 use Rattle.std.proofs.lemmas.Bool.Decides.{nat_tests}
 use Rattle.trex_build.specs.Layer.{Layer, Ethernet, Vlan, Ipv4, Tcp, Udp, Raw}
@@ -51,10 +51,3 @@ too_long-none layers none = too_long-by_length layers ∙ by_test (sum_by header
   where
     by_test : (n : ℕ) → None ≡ (if nat_le n 9216 then Some n else None) → nat_lt 9216 n ≡ true
     by_test n none = grind (arith, nat_tests)
-
--- and where there is one
-pub too_long-some : (layers : List Layer) (length : ℕ) → Some length ≡ (if nat_le (sum_by header_length layers) 9216 then Some (sum_by header_length layers) else None) → too_long layers ≡ false
-too_long-some layers length some = too_long-by_length layers ∙ by_test (sum_by header_length layers) some
-  where
-    by_test : (n : ℕ) → Some length ≡ (if nat_le n 9216 then Some n else None) → nat_lt 9216 n ≡ false
-    by_test n some = grind (arith, nat_tests)

@@ -1,5 +1,5 @@
 -- What callers of a board need of its words.
-use Rattle.std.proofs.Common.{◌≡◌, ◌≢◌, ℕ, zero, suc, ◌+◌, ◌<◌, List, [], ◌∷◌, length, get_or, ap, ◌∙◌, arith, true, false, get_or-set_other, get_or-set_same}
+use Rattle.std.proofs.Common.{◌≡◌, ◌≢◌, ℕ, zero, suc, ◌+◌, ◌<◌, List, [], ◌∷◌, length, get_or, ap, ◌∙◌, arith, true, false, get_or-set_other}
 use Rattle.trex_claims.specs.declared.view.Stand.{Stand}
 use Rattle.trex_claims.specs.declared.view.View.{View}
 use Rattle.trex_claims.specs.Views.{times}
@@ -21,9 +21,6 @@ stand_rested v c running below =
 -- where none is open, nothing changes
 pub rested_still : (v : View) → v.round.running ≡ false → rested v ≡ v
 rested_still v off = ap (λ b. rested_if b v) off
-
-pub stand_here : (v : View) (c : ℕ) (t : Stand) → c < length v.round.stands → stand_at (restood v c t) c ≡ t
-stand_here v c t below = get_or-set_same v.round.stands c t vacant below
 
 pub stand_else : (v : View) (c k : ℕ) (t : Stand) → k ≢ c → stand_at (restood v c t) k ≡ stand_at v k
 stand_else v c k t apart = get_or-set_other v.round.stands c k t vacant apart

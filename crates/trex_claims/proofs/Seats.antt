@@ -18,11 +18,6 @@ first_alone First a v i f = f
 first_alone Other a v i f = i
 first_alone Spent a v i f = i
 
-other_follows : (r : Role) (a v : View) → IsOther r → FollowsAs r a v → v.round ≡ a.round
-other_follows First a v i f = absurd i
-other_follows Other a v i f = f
-other_follows Spent a v i f = absurd i
-
 unspent_follows : (r : Role) (a v : View) → (v ≡ spent → ⊥) → FollowsAs r a v → v.round ≡ a.round
 unspent_follows First a v n f = absurd f
 unspent_follows Other a v n f = f

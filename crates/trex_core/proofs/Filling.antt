@@ -1,12 +1,8 @@
 -- One packet more in a batch.
-use Rattle.std.proofs.Common.{◌≡◌, ℕ, ◌+◌, ◌≤◌, nat_lt, nat_le, true, false, Some, None, List, [], ◌∷◌, ◌++◌, drop, length, map, slice_get, refl, sym, ap, ◌∙◌, arith, append_assoc, length-append}
-use Rattle.std.proofs.lemmas.Bool.{and_from, and_parts, le-leb, leb-true, ltb-true}
-use Rattle.std.proofs.lemmas.List.Sums.{sum_by_push}
+use Rattle.std.proofs.Common.{◌≡◌, ◌+◌, false, Some, None, List, [], ◌∷◌, ◌++◌, drop, length, map, slice_get, refl, sym, ap, ◌∙◌, append_assoc}
 use Rattle.trex_merge.specs.Frames.{Frame}
 use Rattle.trex_sched.specs.declared.slot.Slot.{Slot}
-use Rattle.trex_core.specs.declared.batch.TheConstants.{BATCH_PACKETS, BATCH_BYTES}
-use Rattle.trex_core.specs.declared.maker.TheConstants.{LONGEST_PACKET}
-use Rattle.trex_core.specs.Batches.{IsWithin, batch_of, bytes_of, has_room_for}
+use Rattle.trex_core.specs.Batches.{IsWithin, batch_of, has_room_for}
 use Rattle.trex_core.specs.Beginnings.{batch_full, batch_last}
 
 -- the next value is the first
@@ -18,16 +14,6 @@ first_is (y ∷ xs) x next = let same : x ≡ y = cc in ap (λ z. z ∷ xs) (sym
 pub none_is : {X : Type 0} (xs : List X) → None ≡ slice_get xs 0 → xs ≡ []
 none_is [] next = refl
 none_is (y ∷ xs) next = cc
-
--- a packet for which there is room
-pub pushed_within : (w : List Frame) (f : Frame) → has_room_for w (length f.bytes) ≡ true → IsWithin (w ++ f ∷ [])
-pushed_within w f room =
-    let both = and_parts (nat_lt (length w) BATCH_PACKETS) (nat_le (bytes_of w + length f.bytes) BATCH_BYTES) room in
-    let few = ltb-true (length w) BATCH_PACKETS both.0 in
-    let small = leb-true (bytes_of w + length f.bytes) BATCH_BYTES both.1 in
-    let more : length (w ++ f ∷ []) ≡ length w + 1 = length-append w (f ∷ []) in
-    let sums : bytes_of (w ++ f ∷ []) ≡ bytes_of w + length f.bytes = sum_by_push (λ (x : Frame). length x.bytes) w f in
-    record { packets = omega arith; bytes = omega arith }
 
 -- it goes from the front of those to come to the end of those that wait
 pub moved : (frame : Slot → Frame) (w : List Frame) (slots : List Slot) (slot : Slot) → Some slot ≡ slice_get slots 0
@@ -46,8 +32,3 @@ pub last_is : (frame : Slot → Frame) (w : List Frame) (slots : List Slot) → 
     → batch_of (w ++ map frame slots) ≡ w
 last_is frame w slots within none =
     ap (λ xs. batch_of (w ++ map frame xs)) (none_is slots none) ∙ batch_last w within
-
--- an empty batch has room for any packet
-pub empty_has_room : (n : ℕ) → n ≤ LONGEST_PACKET → has_room_for [] n ≡ true
-empty_has_room n short =
-    and_from (nat_lt 0 BATCH_PACKETS) (nat_le (0 + n) BATCH_BYTES) refl (le-leb (0 + n) BATCH_BYTES (omega arith))

@@ -1,5 +1,5 @@
 -- The packets of a profile's chains are those of its streams, and early enough.
-use Rattle.std.proofs.Common.{◌≡◌, ℕ, ◌<◌, ◌≤◌, ◌^◌, Bool, true, false, cond, Some, List, [], ◌∷◌, drop, length, slice_get, map, subst, inl, inr, arith}
+use Rattle.std.proofs.Common.{ℕ, ◌<◌, ◌≤◌, ◌^◌, Bool, true, false, cond, List, [], ◌∷◌, length, map, inl, inr, arith}
 use Rattle.std.specs.List.{AllByRecursion, filter}
 use Rattle.trex_merge.specs.Order.{Has, ordered}
 use Rattle.trex_merge.proofs.Laws.{all_at, all_from, same-ordered}
@@ -53,16 +53,6 @@ all-filter P test [] all = tt
 all-filter P test (x ∷ xs) all =
     let rest = all-filter P test xs all.1 in
     elim (test x) as (λ t. AllByRecursion P (cond t (x ∷ filter test xs) (filter test xs))) [ true ↦ (all.0, rest) | false ↦ rest ]
-
--- what holds of all that is left holds of the next one
-pub next-all : {X : Type 0} (P : X → Type 0) (xs : List X) (x : X) → AllByRecursion P xs → Some x ≡ slice_get xs 0 → P x
-next-all P [] x all next = cc
-next-all P (y ∷ xs) x all next = let same : y ≡ x = cc in subst P same all.0
-
--- and of all after it
-pub rest-all : {X : Type 0} (P : X → Type 0) (xs : List X) → AllByRecursion P xs → AllByRecursion P (drop 1 xs)
-rest-all P [] all = tt
-rest-all P (x ∷ xs) all = all.1
 
 -- the times of what the chains send
 pub all_below : (d : ℕ) (chains : List Chain) → ((chain : Chain) → AllByRecursion (λ slot. slot.time < d) (entries chain d))

@@ -110,9 +110,6 @@ split text n =
 pub few_before : (text : List ℕ) (n most : ℕ) → length (filter is_ascii_digit text) ≤ most → length (filter is_ascii_digit (take n text)) ≤ most
 few_before text n most h = omega (arith, split text n, h)
 
-pub few_after : (text : List ℕ) (n most : ℕ) → length (filter is_ascii_digit text) ≤ most → length (filter is_ascii_digit (drop n text)) ≤ most
-few_after text n most h = omega (arith, split text n, h)
-
 -- an ascii digit's value, and that it is one
 digit_of : (b : ℕ) → is_ascii_digit b ≡ true → (digit_value b ≡ b - 48) × (digit_value b < 10)
 digit_of b is =

@@ -25,14 +25,6 @@ past led bs = option_map_or (λ p. option_map (λ n. 1 + n) (stop_from p bs)) le
 abbrev pub later : ℕ → Option ℕ → Option ℕ
 later k o = option_map (λ n. k + n) o
 
-pub later-past : (k : ℕ) (o : Option ℕ) → later k (option_map (λ n. 1 + n) o) ≡ later (k + 1) o
-later-past k None = refl
-later-past k (Some n) = let same : k + (1 + n) ≡ (k + 1) + n = omega arith in ap (λ m. Some m) same
-
-pub later-zero : (o : Option ℕ) → later 0 o ≡ o
-later-zero None = refl
-later-zero (Some n) = let same : 0 + n ≡ n = omega arith in ap (λ m. Some m) same
-
 pub past_none : (o : Option ℕ) → option_map (λ n. 1 + n) o ≡ None → o ≡ None
 past_none None e = refl
 past_none (Some n) e = cc

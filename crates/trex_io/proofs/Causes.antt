@@ -6,10 +6,6 @@ use Rattle.trex_io.specs.Faults.{Rises, HasCause}
 pub Rises-after : {K : Type 0} (faults : K → ℕ) (a b c : K) → faults a ≤ faults b → Rises faults b c → Rises faults a c
 Rises-after faults a b c later rises = omega arith
 
--- a count that rose in the earlier of two steps rose over both
-pub Rises-before : {K : Type 0} (faults : K → ℕ) (a b c : K) → Rises faults a b → faults b ≤ faults c → Rises faults a c
-Rises-before faults a b c rises later = omega arith
-
 -- a call that fails where a step of its own failed, after steps that didn't, has that step's cause
 pub HasCause-failed : {K T E : Type 0} (faults : K → ℕ) (a b c : K) (e : E) → faults a ≤ faults b → faults b ≤ faults c → Rises faults b c
     → HasCause {T = T} faults a c (Err e)

@@ -1,11 +1,11 @@
 -- Laws of what was written, over any kind of state.
-use Rattle.std.proofs.Common.{◌≡◌, ℕ, ◌+◌, ◌<◌, ◌≤◌, List, ◌∷◌, ◌++◌, Option, Result, Ok, Err, length, take, drop, get_or, sym, ap, ◌∙◌, subst, arith, length-append, append_assoc, take-append-drop, drop-cons, suc, IsErr}
+use Rattle.std.proofs.Common.{◌≡◌, ℕ, ◌+◌, ◌<◌, ◌≤◌, List, ◌∷◌, ◌++◌, Option, Result, Ok, Err, length, take, drop, get_or, sym, ap, ◌∙◌, subst, arith, length-append, append_assoc, take-append-drop, drop-cons, suc}
 use Rattle.std.proofs.Math.Seq.{take-append-add}
 use Rattle.std.proofs.lemmas.List.{take-append-le}
 use Rattle.std.proofs.lemmas.Grind.{flat_map-append}
 use Rattle.std.specs.List.{flat_map}
 use Rattle.std.proofs.KnownBytes.{Appends-trans}
-use Rattle.trex_io.specs.Texts.{Wrote, WrotePart, WrotePrefix, Writes}
+use Rattle.trex_io.specs.Texts.{Wrote, WrotePart, Writes}
 use Rattle.trex_io.proofs.Causes.{HasCause-after}
 
 module _ {K : Type 0} (held : K → Option (List ℕ)) (a b c : K) (front rest : List ℕ) where
@@ -49,13 +49,3 @@ Writes-after held faults a b c (Ok x) front rest first later next =
     record { whole = Wrote-after held a b c front rest first next.whole; part = tt; cause = HasCause-after faults a b c (Ok x) later next.cause }
 Writes-after held faults a b c (Err e) front rest first later next =
     record { whole = tt; part = WrotePart-after held a b c front rest first next.part; cause = HasCause-after faults a b c (Err e) later next.cause }
-
--- a call that failed to write a text failed to write any longer one
-pub Writes-longer : {K T E : Type 0} (held : K → Option (List ℕ)) (faults : K → ℕ) (a b : K) (result : Result T E) (front rest : List ℕ)
-    → IsErr result → Writes held faults a b result front → Writes held faults a b result (front ++ rest)
-Writes-longer held faults a b (Ok x) front rest failed call = cc
-Writes-longer held faults a b (Err e) front rest failed call = record { whole = tt; part = WrotePart-longer held a b front rest call.part; cause = call.cause }
-
--- a part is a prefix
-pub WrotePrefix-of_part : {K : Type 0} (held : K → Option (List ℕ)) (a b : K) (text : List ℕ) → WrotePart held a b text → WrotePrefix held a b text
-WrotePrefix-of_part held a b text (n, short, part) = (n, part)

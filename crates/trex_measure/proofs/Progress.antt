@@ -11,7 +11,7 @@ use Rattle.trex_pcap.specs.Reading.{begin, Holds, HoldsAfter, IsCapture}
 use Rattle.trex_pcap.proofs.Readings.{capture_once}
 use Rattle.trex_stats.specs.Counts.{Counts, StandsFor}
 use Rattle.trex_measure.specs.declared.fault.MeasureFault.{MeasureFault}
-use Rattle.trex_measure.specs.declared.fault.MeasureFault.TheVariants.{Read, Bad, Memory}
+use Rattle.trex_measure.specs.declared.fault.MeasureFault.TheVariants.{Read, Bad}
 use Rattle.trex_measure.specs.Measured.{OnCapture, HasFault, IfCapture, IsSound, AnswersFor, measure_fault}
 
 -- The counts stand for some records, and what follows these in the rest follows them in the whole text.
@@ -21,14 +21,6 @@ Progress (Some text) None p c = ⊥
 Progress (Some text) (Some left) p c =
     (rs : List Seen) × StandsFor c rs × (begin text ≡ Ok p.format)
     × ((ss : List Seen) (e : Option CaptureFault) → Holds p.format p.records left ss e → Holds p.format 0 (drop 24 text) (rs ++ ss) e)
-
--- after the file header
-pub Progress-start : (old new : Option (List ℕ)) (p : Place) (c : Counts) → Begins old new (Ok p) → p.records ≡ 0 → StandsFor c [] → Progress old new p c
-Progress-start None new p c begins none stands = tt
-Progress-start (Some text) None p c begins none stands = cc
-Progress-start (Some text) (Some left) p c begins none stands =
-    let rest : left ≡ drop 24 text = cc in
-    ([], stands, begins.0, λ ss e holds. subst (λ n. Holds p.format n (drop 24 text) ss e) none (subst (λ l. Holds p.format p.records l ss e) rest holds))
 
 -- one record more
 pub Progress-record : (old mid new : Option (List ℕ)) (p q : Place) (c d : Counts) (r : Record) (buffer : List ℕ) → Progress old mid p c
@@ -107,11 +99,3 @@ exact_fault text e has = exact_bad text e (has tt)
 pub sound_fault : (text : Option (List ℕ)) (e : CaptureFault) → (IsOfCapture e → HasFault text e) → IsSound text (measure_fault e)
 sound_fault text Fault has = tt
 sound_fault text e has = (tt, has tt)
-
--- want of memory is an answer for any reading
-pub exact_memory : (text : Option (List ℕ)) → IfCapture text (AnswersFor (Err Memory))
-exact_memory text = free text (Err Memory) (λ ss e. tt)
-
-pub read_fault : (e : CaptureFault) → measure_fault e ≡ Read → e ≡ Fault
-read_fault Fault same = refl
-read_fault e same = cc

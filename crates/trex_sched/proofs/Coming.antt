@@ -1,5 +1,5 @@
 -- What is still to come of a walk, from one run to the next.
-use Rattle.std.proofs.Common.{◌≡◌, ℕ, ◌+◌, ◌%◌, ◌==◌, ◌<◌, ◌≤◌, nat_lt, Bool, true, false, cond, List, [], ◌∷◌, ◌++◌, Option, None, Some, refl, sym, ap, ◌∙◌, subst, arith, inl, inr}
+use Rattle.std.proofs.Common.{◌≡◌, ℕ, ◌+◌, ◌%◌, ◌==◌, ◌<◌, ◌≤◌, nat_lt, Bool, true, false, cond, List, [], ◌++◌, Option, None, Some, refl, ap, ◌∙◌, subst, arith, inl, inr}
 use Rattle.std.proofs.lemmas.Bool.{cases_lt}
 use Rattle.std.proofs.lemmas.Bool.Decides.{nat_tests}
 use Rattle.std.proofs.lemmas.List.Elements.{filter-append}
@@ -10,7 +10,7 @@ use Rattle.trex_sched.specs.declared.slot.Slot.{Slot}
 use Rattle.trex_sched.specs.Chain.{Chain, IsChain}
 use Rattle.trex_sched.specs.Entries.{entries, run_entries, share}
 use Rattle.trex_sched.specs.Runs.{later_runs, run_after, run_at, run_below}
-use Rattle.trex_sched.specs.ToCome.{rest_from, then_share}
+use Rattle.trex_sched.specs.ToCome.{rest_from}
 use Rattle.trex_sched.proofs.Following.{begins, follows, kept_none, later_step, runs_none}
 
 -- a core's part of two lists
@@ -83,15 +83,6 @@ first_at : (chain : Chain) → (run : Run) → run_at chain 0 0 0 ≡ Some run �
 first_at chain run some = let b = begins chain 0 0 0 run some in ap (slice_get chain.legs) b.place_is ∙ b.leg_at
 
 -- ---- the steps of a walk
-
--- a packet of this run is the next
-pub rest_found : (chain : Chain) (core cores d : ℕ) (run : Run) (from : ℕ) (slot : Slot) → share core cores (run_entries d run from) ≡ then_share core cores d run (Some slot)
-    → rest_from chain core cores d run from ≡ slot ∷ rest_from chain core cores d run (slot.in_run + 1)
-rest_found chain core cores d run from slot here =
-    let later = sent_by chain d (run_after chain run) in
-    share-append core cores (run_entries d run from) later
-    ∙ ap (λ (xs : List Slot). xs ++ share core cores later) here
-    ∙ ap (λ (xs : List Slot). slot ∷ xs) (sym (share-append core cores (run_entries d run (slot.in_run + 1)) later))
 
 -- the run has none, and no run after it starts below the duration
 pub rest_ends : (chain : Chain) (core cores d : ℕ) (run : Run) (from : ℕ) → IsChain chain → share core cores (run_entries d run from) ≡ []

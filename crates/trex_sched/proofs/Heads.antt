@@ -284,9 +284,6 @@ pub empty_added : (lists : List (List Slot)) (heads : List (Reverse Head)) (list
 empty_added lists heads [] known empty = list_comes lists heads known
 empty_added lists heads (slot ∷ rest) known empty = absurd cc
 
-pub none_known : AreHeads [] []
-none_known = record { each = tt; once = λ place. omega arith; all = λ place slot rest there. absurd cc }
-
 -- ---- the least head, and what it stands for
 
 -- Of lists whose heads are these, the first in order, and what comes after it.

@@ -27,11 +27,6 @@ cmp_more a b h = rw (le-ltb a b (omega arith), ne_eqb a b (omega arith)) refl
 
 -- ---- ranges in order
 
--- ranges that rise from a number rise from a lower one too
-pub Ascend-from : (a b : ℕ) (rs : List (ℕ × ℕ)) → a ≤ b → Ascend b rs → Ascend a rs
-Ascend-from a b [] le up = tt
-Ascend-from a b (r ∷ rs) le (low, some, fits, more) = (omega arith, some, fits, more)
-
 -- where the next range may begin, after ranges that rise from `low`
 abbrev pub past : ℕ → List (ℕ × ℕ) → ℕ
 past low [] = low

@@ -1,23 +1,15 @@
 -- What is counted of a run's packets as they go by.
-use Rattle.std.proofs.Common.{◌≡◌, ℕ, ◌+◌, ◌≤◌, List, ◌++◌, length, sum_by, take, drop, slice_get, Some, sym, ap, ◌∙◌, arith, zero-add}
+use Rattle.std.proofs.Common.{◌≡◌, ℕ, ◌+◌, List, ◌++◌, length, sum_by, take, drop, slice_get, Some, sym, ap, ◌∙◌, zero-add}
 use Rattle.std.proofs.Math.Seq.{take-length}
-use Rattle.std.proofs.lemmas.List.{length-take}
 use Rattle.std.proofs.lemmas.List.Sums.{sum_by_push}
-use Rattle.trex_core.specs.Plan.{frames_of_plan}
-use Rattle.trex_merge.specs.Frames.{Frame, key_of}
-use Rattle.trex_merge.specs.Order.{ordered}
+use Rattle.trex_merge.specs.Frames.{Frame}
 use Rattle.trex_pcap.specs.Writing.{record_of}
 use Rattle.trex_sum.specs.Checksum.{fold_of, sum_of}
 use Rattle.trex_top.specs.declared.sampling.Counts.{Counts}
 use Rattle.trex_top.specs.Capture.{capture_text, packet_at}
-use Rattle.trex_top.specs.Ready.{Stand, all_of}
 use Rattle.trex_top.specs.Sample.{counts_of}
 use Rattle.trex_top.proofs.Gathering.{capture_of-more}
 use Rattle.trex_top.proofs.Schedule.{take-next}
-
--- no run sends more than its limit
-pub all-limited : (s : Stand) → length (all_of s) ≤ s.state.limit
-all-limited s = let long = length-take s.state.limit (ordered key_of (frames_of_plan s.plan)) in omega (arith, long)
 
 -- one packet more
 pub summed-more : (all : List Frame) (k n : ℕ) (frame : Frame) → slice_get (drop k all) 0 ≡ Some frame → n ≡ k + 1

@@ -102,10 +102,6 @@ tallies_from-none : (position : ℕ) (p : List Stream) → AreOf 0 (tallies_from
 tallies_from-none position [] = tt
 tallies_from-none position (s ∷ p) = ((omega arith, omega arith), tallies_from-none (position + 1) p)
 
-pub AreOf-none : (p : List Stream) → AreOf 0 (tallies p [])
-unfolding tallies
-AreOf-none p = tallies_from-none 0 p
-
 -- the tally of the stream at a position before the first packet
 tallies_from-at : (j position : ℕ) (p : List Stream) (id : ℕ) → IsSomeAnd (slice_get p j) (λ s. id ≡ s.id)
     → slice_get (drop j (tallies_from position p [])) 0 ≡ Some (record { id = id; packets = 0; bytes = 0 })

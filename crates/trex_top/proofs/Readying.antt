@@ -524,10 +524,6 @@ pub early_by : (d : ℕ) (frames : List Frame) → d ≤ 10 ^ 18 → AllByRecurs
 early_by d [] within all = tt
 early_by d (f ∷ frames) within all = let here = all.0 in (omega arith, early_by d frames within all.1)
 
--- where nothing comes next, no more was gone to
-pub seen_same : (state : MillState) (k : ℕ) → length state.sent ≡ k → is_packet (next_in state) ≡ false → seen state ≡ k
-seen_same state k is none = ap (λ n. n + (if is_packet (next_in state) then 1 else 0)) is ∙ ap (λ b. k + (if b then 1 else 0)) none ∙ omega arith
-
 -- runs of one plan and one limit send the same
 pub all_same : (a b : Stand) → a.plan ≡ b.plan → a.state.limit ≡ b.state.limit → all_of a ≡ all_of b
 all_same a b plan limit = ap (λ n. sequence n (frames_of_plan a.plan)) limit ∙ ap (λ (p : PlanOf). sequence b.state.limit (frames_of_plan p)) plan

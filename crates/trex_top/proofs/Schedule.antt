@@ -1,7 +1,5 @@
 -- A list that is passed one by one: the first k were passed, and the others are left.
-use Rattle.std.proofs.Common.{◌≡◌, ℕ, zero, suc, ◌+◌, ◌≤◌, List, [], ◌∷◌, ◌++◌, length, take, drop, slice_get, Some, None, refl, sym, ap, subst, ◌∙◌, arith, add-one, take-append-drop}
-use Rattle.std.specs.List.{AllByRecursion}
-use Rattle.std.proofs.lemmas.List.{take_all}
+use Rattle.std.proofs.Common.{◌≡◌, ℕ, zero, suc, ◌+◌, ◌≤◌, List, [], ◌∷◌, ◌++◌, length, take, drop, slice_get, Some, None, refl, sym, ap, ◌∙◌, arith, add-one, take-append-drop}
 
 -- what is left begins with the next one
 take_suc-next : {A : Type 0} (k : ℕ) (xs : List A) (x : A) → slice_get (drop k xs) 0 ≡ Some x → take (suc k) xs ≡ take k xs ++ x ∷ []
@@ -19,20 +17,12 @@ drop_one-drop zero xs = refl
 drop_one-drop (suc k) [] = refl
 drop_one-drop (suc k) (y ∷ xs) = drop_one-drop k xs
 
-pub drop-next : {A : Type 0} (k : ℕ) (xs : List A) → drop 1 (drop k xs) ≡ drop (k + 1) xs
-drop-next k xs = rw add-one (drop_one-drop k xs)
-
 -- where nothing is left, all were passed
 passed_all : {A : Type 0} (k : ℕ) (xs : List A) → slice_get (drop k xs) 0 ≡ None → length xs ≤ k
 passed_all zero [] none = omega arith
 passed_all zero (y ∷ xs) none = cc
 passed_all (suc k) [] none = omega arith
 passed_all (suc k) (y ∷ xs) none = let rest = passed_all k xs none in omega arith
-
-pub take-passed : {A : Type 0} (k m : ℕ) (xs : List A) → k ≤ m → slice_get (drop k xs) 0 ≡ None → take m xs ≡ take k xs
-take-passed k m xs within none =
-    let all = passed_all k xs none in
-    take_all m xs (omega arith) ∙ sym (take_all k xs all)
 
 -- the first k are the front of the first m
 take_split : {A : Type 0} (k m : ℕ) (xs : List A) → k ≤ m → take k (take m xs) ≡ take k xs
@@ -43,13 +33,3 @@ take_split (suc k) (suc m) (y ∷ xs) within = ap (λ l. y ∷ l) (take_split k 
 
 pub take-front : {A : Type 0} (k m : ℕ) (xs : List A) → k ≤ m → take m xs ≡ take k xs ++ drop k (take m xs)
 take-front k m xs within = sym (take-append-drop k (take m xs)) ∙ ap (λ l. l ++ drop k (take m xs)) (take_split k m xs within)
-
--- what holds of all that is left holds of the next one
-pub next-All : {A : Type 0} (P : A → Type 0) (xs : List A) (x : A) → AllByRecursion P xs → slice_get xs 0 ≡ Some x → P x
-next-All P [] x all next = cc
-next-All P (y ∷ xs) x all next = let same : y ≡ x = cc in subst P same all.0
-
--- and of all after it
-pub rest-All : {A : Type 0} (P : A → Type 0) (xs : List A) → AllByRecursion P xs → AllByRecursion P (drop 1 xs)
-rest-All P [] all = tt
-rest-All P (y ∷ xs) all = all.1

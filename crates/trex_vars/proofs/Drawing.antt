@@ -10,10 +10,6 @@ unfolding state_after
 state_after-plus w m p zero b s = rw zero-add refl
 state_after-plus w m p (suc a) b s = rw suc-add (state_after-plus w m p a b (next_state w m p s))
 
-state_after-one : (w m p s : ℕ) → next_state w m p s ≡ state_after w m p 1 s
-unfolding state_after
-state_after-one w m p s = refl
-
 -- a new generator stands at word 0
 pub stands-new : (seed position : ℕ) → started 128 multiplier_128 seed (increment_of 128 position) ≡ stands_at seed position 0
 unfolding stands_at state_after

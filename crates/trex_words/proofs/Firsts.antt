@@ -1,5 +1,5 @@
 -- Laws of the first answer of several.
-use Rattle.std.proofs.Common.{◌≡◌, ℕ, zero, suc, ◌+◌, ◌<◌, Option, None, Some, refl, sym, ap, ◌∙◌, subst, arith, add-one, ◌⊎◌, inl, inr}
+use Rattle.std.proofs.Common.{◌≡◌, ℕ, zero, suc, ◌<◌, Option, None, Some, refl, sym, ap, ◌∙◌, subst, arith, ◌⊎◌, inl, inr}
 use Rattle.std.proofs.lemmas.Bool.{cases_lt}
 use Rattle.std.specs.Option.{option_or}
 use Rattle.trex_words.specs.First.{first_of}
@@ -49,7 +49,3 @@ first_of-some f (suc n) x e =
       | inl before ↦ (let (k, less, is) = first_of-some f n x before in (k, omega arith, is))
       | inr last ↦ (n, omega arith, last)
     ]
-
--- one more that isn't there
-pub first_of-next : {X : Type 0} (f : ℕ → Option X) (n : ℕ) → first_of f n ≡ None → f n ≡ None → first_of f (n + 1) ≡ None
-first_of-next f n none here = rw add-one (ap (λ o. option_or o (f n)) none ∙ here)

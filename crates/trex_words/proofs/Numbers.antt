@@ -1,5 +1,5 @@
 -- What std's reading of a number gives for one or more digits.
-use Rattle.std.proofs.Common.{◌≡◌, ℕ, ◌^◌, ◌<◌, ◌≤◌, Bool, true, false, ◌&&◌, nat_lt, nat_le, List, length, Result, Ok, Err, IsOk, inl, inr, refl, sym, ◌∙◌, arith}
+use Rattle.std.proofs.Common.{◌≡◌, ℕ, ◌^◌, ◌<◌, ◌≤◌, Bool, true, false, ◌&&◌, nat_lt, nat_le, List, length, Result, Ok, Err, IsOk, inl, inr, refl, arith}
 use Rattle.std.specs.Result.{OkIff}
 use Rattle.std.specs.Str.{all_ascii_digits}
 use Rattle.std.specs.Str.Parse.{digits_value, ParsesUnsigned}
@@ -27,10 +27,6 @@ read : {E : Type 0} (text : List ℕ) (r : Result ℕ E) → ParsesUnsigned 64 1
 read text r parsed number =
     let (some, digits) = both (nat_lt 0 (length text)) (all_ascii_digits text) number in
     (lt_of 0 (length text) some, parse_digits own 64 text r parsed digits)
-
-pub parsed_is : {E : Type 0} (text : List ℕ) (r : Result ℕ E) (n : ℕ) → r ≡ Ok n → ParsesUnsigned 64 10 text r → is_number text ≡ true → n ≡ digits_value 10 text
-parsed_is {E} text (Ok m) n is parsed number = let same : m ≡ n = cc in sym same ∙ (read {E = E} text (Ok m) parsed number).1.1
-parsed_is {E} text (Err e) n is parsed number = cc
 
 pub parsed_ok : {E : Type 0} (text : List ℕ) (r : Result ℕ E) → ParsesUnsigned 64 10 text r → is_number text ≡ true → digits_value 10 text < 2 ^ 64 → IsOk r
 parsed_ok {E} text (Ok m) parsed number fits = refl
