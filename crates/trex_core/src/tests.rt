@@ -9,7 +9,6 @@ use std::alloc::Global;
 use std::process::Abort;
 use std::test::Fail;
 use trex_claims::Piece;
-use trex_io::Memory;
 use trex_merge::Feed;
 use trex_profile::{
     AdmitFault, Name, Profile, RateKind, RawInstr, RawPlace, RawProfile, RawRate, RawStream, admit,

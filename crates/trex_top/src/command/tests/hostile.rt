@@ -50,6 +50,7 @@ fn repeated(alloc: Global, text: &str, count: usize) -> Result<String, Fail> {
 }
 
 /// A line of words with the bytes that it may read, the number of its reads at a byte a call, and all that it writes.
+#[derive(Clone, Copy)]
 struct Case<'a> {
     line: &'a str,
     input: &'a [u8],
@@ -77,26 +78,30 @@ fn assert_faults<R: Abort + Threads + Sync>(
     let Case { out, notes, .. } = *case;
     let whole = try_case(rt, alloc, case, NONE)?;
     assert_left(rt, &whole, Status::Done, out, notes);
-    for input in (1..).take(case.reads) {
-        let ran = try_case(rt, alloc, case, Failing { input, ..NONE })?;
+    for call in 1..=case.reads {
+        let failing = Failing {
+            input: call as u64,
+            ..NONE
+        };
+        let ran = try_case(rt, alloc, case, failing)?;
         assert_left(rt, &ran, Status::ReadFault, b"", b"read fault\n");
     }
-    for (before, call) in (0..out.len()).zip(1..) {
-        let ran = try_case(rt, alloc, case, Failing { out: call, ..NONE })?;
-        let left = &out[..before];
+    for call in 1..=out.len() {
+        let failing = Failing {
+            out: call as u64,
+            ..NONE
+        };
+        let ran = try_case(rt, alloc, case, failing)?;
+        let left = &out[..call - 1];
         assert_left(rt, &ran, Status::OutFault, left, b"write fault\n");
     }
-    for (before, call) in (0..notes.len()).zip(1..) {
-        let ran = try_case(
-            rt,
-            alloc,
-            case,
-            Failing {
-                notes: call,
-                ..NONE
-            },
-        )?;
-        assert_left(rt, &ran, Status::NotesFault, out, &notes[..before]);
+    for call in 1..=notes.len() {
+        let failing = Failing {
+            notes: call as u64,
+            ..NONE
+        };
+        let ran = try_case(rt, alloc, case, failing)?;
+        assert_left(rt, &ran, Status::NotesFault, out, &notes[..call - 1]);
     }
     Ok(())
 }

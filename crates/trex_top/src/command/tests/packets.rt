@@ -1,6 +1,6 @@
 // What streams with instructions and flows send.
 
-use super::{Failing, NONE, Ran, assert_left, capture, run};
+use super::{NONE, Ran, assert_left, capture, run};
 use crate::Status;
 use std::alloc::Global;
 use std::process::Abort;
