@@ -406,15 +406,20 @@ const STREAM_NAMES: &str =
 const MORE_NAMES: &str =
     r#""random_seed":0,"core_id":-1,"start_paused":false,"vm":{"instructions":[]},"#;
 
-#[test]
-fn names_that_the_tables_do_not_give_are_passed_over(rt: HostRuntime) -> Result<(), Fail> {
-    let alloc = rt.alloc();
+/// A profile with names that nothing reads.
+fn more_names(alloc: Global) -> Result<String, Fail> {
     let packet =
         r#""packet":{"binary":"AgAAAAACAgAAAAABiLU=","meta":""},"flow_stats":{"enabled":false},"#;
     let mode = r#""mode":{"type":"continuous","rate":{"type":"pps","value":1e+06}}"#;
-    let text = format!(in alloc;
+    Ok(format!(in alloc;
         r#"[{{"handler":"x","api_h":"y","port_id":0,"stream_id":1,"stream":{{{STREAM_NAMES}{MORE_NAMES}{packet}{mode}}}}}]"#
-    )?;
+    )?)
+}
+
+#[test]
+fn names_that_the_tables_do_not_give_are_passed_over(rt: HostRuntime) -> Result<(), Fail> {
+    let alloc = rt.alloc();
+    let text = more_names(alloc)?;
     let checked = run(&rt, alloc, "check", text.as_str(), NONE)?;
     assert_left(&rt, &checked, Status::Done, b"accepted streams 1\n", b"");
     let ran = run(&rt, alloc, "run --limit 2", text.as_str(), NONE)?;

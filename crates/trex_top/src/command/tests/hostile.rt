@@ -3,7 +3,7 @@
 ghost use Rattle.std.specs.Prelude.{◌≤◌};
 
 use super::captures::{FIVE, HELP, five};
-use super::{CAPTURE, Ends, Failing, NONE, REPORT, Ran, assert_left, burst, run_over};
+use super::{CAPTURE, Ends, Failing, NONE, REPORT, Ran, assert_left, burst, more_names, run_over};
 use crate::Status;
 use std::alloc::Global;
 use std::process::Abort;
@@ -110,6 +110,7 @@ fn assert_faults<R: Abort + Threads + Sync>(
 fn each_read_and_write_that_fails_has_its_answer(rt: HostRuntime) -> Result<(), Fail> {
     let alloc = rt.alloc();
     let thirds = burst(alloc, 3, "pps", "3")?;
+    let names = more_names(alloc)?;
     let five = five(alloc)?;
     for case in [
         Case {
@@ -121,8 +122,8 @@ fn each_read_and_write_that_fails_has_its_answer(rt: HostRuntime) -> Result<(), 
         },
         Case {
             line: "check",
-            input: thirds.as_bytes(),
-            reads: thirds.len() + 1,
+            input: names.as_bytes(),
+            reads: names.len() + 1,
             out: b"accepted streams 1\n",
             notes: b"",
         },
