@@ -7,14 +7,14 @@ use Rattle.std.proofs.lemmas.Nat.{be_bytes_2, be_bytes_4, be_bytes_8}
 use Rattle.byteorder.specs.Endian.{big_bytes, big_number}
 use Rattle.byteorder.specs.Numbers.{big_number-reads_back, big_from-take}
 use Rattle.trex_stamp.specs.declared.header.Stamp.{Stamp}
-use Rattle.trex_stamp.specs.Stamp.{stamp_bytes, stamp_of, last_16, spelled}
+use Rattle.trex_stamp.specs.Stamp.{stamp_bytes, stamp_of, last_bytes, spelled}
 
 -- a spelled stamp behind any bytes is found again
 pub found_again : (s : Stamp) (front out : List ℕ) → s.flow < 2 ^ 16 → s.sequence < 2 ^ 32 → s.time < 2 ^ 64 → out ≡ stamp_bytes s
     → stamp_of (front ++ out) ≡ Some s
 found_again s front out flow sequence time same =
     let whole : length (front ++ stamp_bytes s) ≡ length front + 16 = length-append front (stamp_bytes s) in
-    let tail : last_16 (front ++ stamp_bytes s) ≡ stamp_bytes s = drop_at front (stamp_bytes s) _ (omega arith) in
+    let tail : last_bytes 16 (front ++ stamp_bytes s) ≡ stamp_bytes s = drop_at front (stamp_bytes s) _ (omega arith) in
     let long : nat_le 16 (length (front ++ stamp_bytes s)) ≡ true = grind (arith, nat_tests) in
     let rest4 = big_bytes 4 s.sequence ++ big_bytes 8 s.time in
     let f = big_number-reads_back 2 s.flow rest4 flow in

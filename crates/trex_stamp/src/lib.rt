@@ -7,6 +7,6 @@ mod spelling;
 #[cfg(test)]
 mod tests;
 
-pub use header::Stamp;
+pub use header::{SHORTEST_STAMPED, STAMP_SIZE, Stamp};
 pub use laws::stamps_are_found;
 pub use spelling::{find_stamp, stamp};

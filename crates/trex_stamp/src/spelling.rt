@@ -1,12 +1,10 @@
 // The latency header's bytes, both ways.
 
 ghost use Rattle.std.specs.Prelude.{◌≡◌, ◌++◌, List, ℕ, IfSome};
-ghost use Rattle.trex_stamp.specs.Stamp.{last_16, stamp_bytes, stamp_of};
+ghost use Rattle.trex_stamp.specs.Stamp.{last_bytes, stamp_bytes, stamp_of};
 
-use crate::header::Stamp;
+use crate::header::{STAMP_SIZE, Stamp};
 use byteorder::{BigEndian, ByteOrder};
-
-const STAMP_LEN: usize = 16;
 
 const MARK: u8 = 0xab;
 
@@ -14,7 +12,7 @@ const VERSION: u8 = 1;
 
 /// The 16 bytes of a latency header: 0xab, the version 1, then flow, sequence and time in network byte order.
 /// At the end of any packet they are found again.
-pub fn stamp(s: &Stamp) -> [u8; 16]
+pub fn stamp(s: &Stamp) -> [u8; STAMP_SIZE]
     ensures bytes { result ≡ stamp_bytes s.now }
     ensures found { (front : List ℕ) → stamp_of (front ++ result) ≡ Some s.now }
 {
@@ -23,7 +21,7 @@ pub fn stamp(s: &Stamp) -> [u8; 16]
         sequence,
         time,
     } = *s;
-    let mut out = [0; STAMP_LEN];
+    let mut out = [0; STAMP_SIZE];
     out[0] = MARK;
     out[1] = VERSION;
     BigEndian::write_u16(&mut out[2..], flow);
@@ -36,12 +34,12 @@ pub fn stamp(s: &Stamp) -> [u8; 16]
 /// or the second isn't 1.
 pub fn find_stamp(bytes: &[u8]) -> Option<Stamp>
     ensures value { result ≡ stamp_of bytes.now }
-    ensures spelled { IfSome result (λ s. last_16 bytes.now ≡ stamp_bytes s) }
+    ensures spelled { IfSome result (λ s. last_bytes STAMP_SIZE bytes.now ≡ stamp_bytes s) }
 {
-    if bytes.len() < STAMP_LEN {
+    if bytes.len() < STAMP_SIZE {
         return None;
     }
-    let header = &bytes[bytes.len() - STAMP_LEN..];
+    let header = &bytes[bytes.len() - STAMP_SIZE..];
     if header[0] != MARK || header[1] != VERSION {
         return None;
     }
