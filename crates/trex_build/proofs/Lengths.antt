@@ -2,6 +2,7 @@
 use Rattle.std.proofs.Common.{◌≡◌, ℕ, ◌+◌, nat_le, nat_lt, true, if◌then◌else◌, List, [], ◌∷◌, length, slice_get, sum_by, Option, None, Some, refl, ap, ◌∙◌, arith, length-append}
 use Rattle.std.proofs.lemmas.List.Sums.{sum_by-cons}
 use Rattle.std.proofs.lemmas.Bool.Decides.{nat_tests}
+use Rattle.trex_layers.specs.declared.sizes.TheConstants.{LONGEST_PACKET}
 use Rattle.trex_build.specs.Layer.{Layer, Ethernet, Vlan, Ipv4, Tcp, Udp, Raw}
 use Rattle.trex_build.specs.Header.{sealed, ipv4_front, tcp_front, udp_front, header_of}
 use Rattle.trex_build.specs.Built.{bytes_behind, header_length, too_long}
@@ -42,12 +43,12 @@ length-bytes_behind before (one ∷ later) =
     length-append (header_of before one (slice_get later 0) payload) payload ∙ omega (arith, sum_by-cons header_length one later)
 
 -- so it is too long by their lengths
-pub too_long-by_length : (layers : List Layer) → too_long layers ≡ nat_lt 9216 (sum_by header_length layers)
-too_long-by_length layers = ap (nat_lt 9216) (length-bytes_behind None layers)
+pub too_long-by_length : (layers : List Layer) → too_long layers ≡ nat_lt LONGEST_PACKET (sum_by header_length layers)
+too_long-by_length layers = ap (nat_lt LONGEST_PACKET) (length-bytes_behind None layers)
 
 -- a length that is no greater than this one, or else none, where it is none
-pub too_long-none : (layers : List Layer) → None ≡ (if nat_le (sum_by header_length layers) 9216 then Some (sum_by header_length layers) else None) → too_long layers ≡ true
+pub too_long-none : (layers : List Layer) → None ≡ (if nat_le (sum_by header_length layers) LONGEST_PACKET then Some (sum_by header_length layers) else None) → too_long layers ≡ true
 too_long-none layers none = too_long-by_length layers ∙ by_test (sum_by header_length layers) none
   where
-    by_test : (n : ℕ) → None ≡ (if nat_le n 9216 then Some n else None) → nat_lt 9216 n ≡ true
+    by_test : (n : ℕ) → None ≡ (if nat_le n LONGEST_PACKET then Some n else None) → nat_lt LONGEST_PACKET n ≡ true
     by_test n none = grind (arith, nat_tests)

@@ -1,5 +1,6 @@
 -- The packet of some layers. Own.
 use Rattle.std.specs.Prelude.{◌≡◌, ℕ, ◌+◌, nat_lt, Bool, true, false, List, [], ◌∷◌, ◌++◌, length, slice_get, Option, None, Some, Result, Ok, Err}
+use Rattle.trex_layers.specs.declared.sizes.TheConstants.{LONGEST_PACKET}
 use Rattle.trex_build.specs.declared.building.BuildFault.{BuildFault}
 use Rattle.trex_build.specs.declared.building.BuildFault.TheVariants.{Order, TooLong, Memory}
 use Rattle.trex_build.specs.Layer.{Layer, Ethernet, Vlan, Ipv4, Tcp, Udp, Raw}
@@ -28,7 +29,7 @@ header_length (Raw bytes) = length bytes
 
 -- the packet has more bytes than a template may have
 abbrev pub too_long : List Layer → Bool
-too_long layers = nat_lt 9216 (length (built layers))
+too_long layers = nat_lt LONGEST_PACKET (length (built layers))
 
 -- an answer is the packet, or else the first fault, unless memory ran out: the order is looked at, and then the length
 abbrev pub Builds : {X : Type 0} → (X → List ℕ) → Result X BuildFault → List Layer → Type 0

@@ -9,6 +9,7 @@ use crate::layer::LayerSpec;
 use crate::order::misplaced;
 use std::alloc::{AllocError, Global};
 use thiserror::Error;
+use trex_layers::LONGEST_PACKET;
 
 /// Why layers give no packet.
 #[derive(Clone, Copy, Debug, PartialEq, Eq, Drop, Error)]
@@ -35,12 +36,9 @@ impl From<AllocError> for BuildFault {
     }
 }
 
-/// The greatest length of a packet, in bytes.
-const LONGEST_PACKET: usize = 9_216;
-
 /// The length of the packet of some layers, where it isn't too long.
 fn packet_length(layers: &[LayerSpec]) -> Option<usize>
-    ensures { let length = sum_by header_length (map layer layers.now) in result ≡ (if nat_le length 9216 then Some length else None) }
+    ensures { let length = sum_by header_length (map layer layers.now) in result ≡ (if nat_le length LONGEST_PACKET then Some length else None) }
 {
     let mut length = 0;
     for one in layers {
@@ -56,7 +54,7 @@ fn packet_length(layers: &[LayerSpec]) -> Option<usize>
 /// Writes layers behind another one: each header before what it carries.
 fn write_layers(out: &mut [u8], before: Option<&LayerSpec>, layers: &[LayerSpec])
     requires room { length out.old ≡ sum_by header_length (map layer layers.now) }
-    requires short { length out.old ≤ 9216 }
+    requires short { length out.old ≤ LONGEST_PACKET }
     ensures { out.new ≡ bytes_behind (option_map (λ one. layer one.now) before.entry) (map layer layers.now) }
 {
     if let [one, later @ ..] = layers {

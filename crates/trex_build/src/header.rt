@@ -9,6 +9,7 @@ ghost use Rattle.trex_build.specs.Layer.{layer};
 
 use crate::layer::LayerSpec;
 use byteorder::{BigEndian, ByteOrder};
+use trex_layers::LONGEST_PACKET;
 use trex_sum::{fold, sum_words};
 
 const TYPE_LEN: usize = 2;
@@ -195,7 +196,7 @@ fn write_ipv4(header: &mut [u8], front: &[u8; 10], ends: &[u8; 8])
 #[tactic(auto, unfolding(crate::specs::Header::sealed))]
 fn write_tcp(header: &mut [u8], before: Option<&LayerSpec>, front: &[u8; 16], payload: &[u8])
     requires long { length header.old ≡ 20 }
-    requires short { length payload.now ≤ 9216 }
+    requires short { length payload.now ≤ LONGEST_PACKET }
     ensures { header.new ≡ sealed (λ n. n) (pseudo_header (addresses_of (option_map (λ one. layer one.now) before.entry)) 6 (20 + length payload.now))
         front.now tcp_back payload.now }
 {
@@ -215,7 +216,7 @@ fn ones_for_zero(checksum: u16) -> u16
 #[tactic(auto, unfolding(crate::specs::Header::sealed))]
 fn write_udp(header: &mut [u8], before: Option<&LayerSpec>, front: &[u8; 6], payload: &[u8])
     requires long { length header.old ≡ 8 }
-    requires short { length payload.now ≤ 9216 }
+    requires short { length payload.now ≤ LONGEST_PACKET }
     ensures { header.new ≡ sealed ones_for_zero (pseudo_header (addresses_of (option_map (λ one. layer one.now) before.entry)) 17 (8 + length payload.now))
         front.now [] payload.now }
 {
@@ -233,7 +234,7 @@ pub(crate) fn write_header(
     payload: &[u8],
 )
     requires long { length header.old ≡ header_length (layer one.now) }
-    requires short { length payload.now ≤ 9216 }
+    requires short { length payload.now ≤ LONGEST_PACKET }
     ensures { header.new ≡ header_of (option_map (λ other. layer other.now) before.entry) (layer one.now)
         (option_map (λ other. layer other.now) next.entry) payload.now }
 {
