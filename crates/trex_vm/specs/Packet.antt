@@ -2,6 +2,7 @@
 use Rattle.std.specs.Prelude.{ℕ, ◌-◌, List, [], ◌∷◌, length, take, Option, Some, None}
 use Rattle.trex_fields.specs.Bytes.{put}
 use Rattle.trex_stamp.specs.declared.header.Stamp.{Stamp}
+use Rattle.trex_stamp.specs.declared.header.TheConstants.{STAMP_SIZE}
 use Rattle.trex_stamp.specs.Stamp.{stamp_bytes}
 use Rattle.trex_vars.specs.declared.value.VarValue.{VarValue}
 use Rattle.trex_vm.specs.declared.instr.Instr.{Instr}
@@ -31,10 +32,10 @@ trimmed values (WriteMask from at cast mask shift add big ∷ rest) whole = trim
 trimmed values (FixIpv4 at ∷ rest) whole = trimmed values rest whole
 trimmed values (FixL4 ip header kind ∷ rest) whole = trimmed values rest whole
 
--- the bytes with the latency header, where there is one, in place of the last 16
+-- the bytes with the latency header, where there is one, in place of the last bytes
 abbrev pub stamped : Option Stamp → List ℕ → List ℕ
 stamped None bytes = bytes
-stamped (Some s) bytes = put (length bytes - 16) (stamp_bytes s) bytes
+stamped (Some s) bytes = put (length bytes - STAMP_SIZE) (stamp_bytes s) bytes
 
 -- the packet before its instructions: the template, cut to its length, and stamped
 abbrev pub front : List Instr → List VarValue → Option Stamp → List ℕ → List ℕ

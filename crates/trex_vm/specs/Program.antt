@@ -1,7 +1,9 @@
 -- Programs, and for which templates and values they are meant. Own.
 use Rattle.std.specs.Prelude.{◌≡◌, ℕ, ◌<◌, ◌≤◌, negsuc, pos, ◌≤ℤ◌, Bool, false, IsTrue, List, length, Option, Some, None, IfSome, All}
 use Rattle.std.specs.List.{list_any, count_by}
+use Rattle.trex_layers.specs.declared.sizes.TheConstants.{LONGEST_PACKET, SHORTEST_PACKET}
 use Rattle.trex_fields.specs.Bytes.{IsSize}
+use Rattle.trex_stamp.specs.declared.header.TheConstants.{SHORTEST_STAMPED}
 use Rattle.trex_vars.specs.Variable.{Variable}
 use Rattle.trex_vars.specs.Check.{fault_of}
 use Rattle.trex_vars.specs.declared.value.VarValue.{VarValue}
@@ -58,10 +60,10 @@ AreSound vars = All (λ variable. fault_of variable ≡ None) vars
 
 -- what holds of every program
 pub record IsProgram (p : Plan) : Type 0 where
-  pub long : 14 ≤ p.least
-  pub stamp : IsTrue p.stamps → 30 ≤ p.least
+  pub long : SHORTEST_PACKET ≤ p.least
+  pub stamp : IsTrue p.stamps → SHORTEST_STAMPED ≤ p.least
   pub cut : p.least ≤ p.template
-  pub short : p.template ≤ 9216
+  pub short : p.template ≤ LONGEST_PACKET
   pub trims : count_by is_trim p.instrs ≤ 1
   pub formed : All IsFormed p.instrs
   pub places : list_any (writes_past (room p)) p.instrs ≡ false

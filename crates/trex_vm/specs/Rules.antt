@@ -1,6 +1,8 @@
 -- Which programs are accepted: one test a rule, over the variables, the template's bytes and the instructions. Own.
 use Rattle.std.specs.Prelude.{ℕ, ◌+◌, ◌-◌, ◌/◌, ◌==◌, Bool, true, false, not, ◌&&◌, ◌||◌, nat_le, nat_lt, if◌then◌else◌, List, length, map, slice_index, Option, Some, None}
 use Rattle.std.specs.List.{list_any, count_by}
+use Rattle.trex_layers.specs.declared.sizes.TheConstants.{SHORTEST_PACKET}
+use Rattle.trex_stamp.specs.declared.header.TheConstants.{SHORTEST_STAMPED, STAMP_SIZE}
 use Rattle.trex_vars.specs.Variable.{Variable}
 use Rattle.trex_vars.specs.Bounds.{least, greatest}
 use Rattle.trex_vm.specs.declared.instr.Instr.{Instr}
@@ -16,7 +18,7 @@ least_length vars instrs whole = trimmed (map least vars) instrs whole
 
 -- the bytes of the shortest packet in front of its latency header
 abbrev pub room_of : ℕ → Bool → ℕ
-room_of shortest stamped = if stamped then shortest - 16 else shortest
+room_of shortest stamped = if stamped then shortest - STAMP_SIZE else shortest
 
 -- the instruction cuts the packet
 abbrev pub is_trim : Instr → Bool
@@ -26,13 +28,13 @@ is_trim (FixIpv4 at) = false
 is_trim (FixL4 ip header kind) = false
 is_trim (Trim from) = true
 
--- a trim whose least number is below 14, or whose greatest is above the template's length
+-- a trim whose least number is below the shortest packet's length, or whose greatest is above the template's length
 abbrev pub trim_wrong : List Variable → ℕ → Instr → Bool
 trim_wrong vars whole (Write from at add big) = false
 trim_wrong vars whole (WriteMask from at cast mask shift add big) = false
 trim_wrong vars whole (FixIpv4 at) = false
 trim_wrong vars whole (FixL4 ip header kind) = false
-trim_wrong vars whole (Trim from) = nat_lt (number_in (map least vars) from) 14 || nat_lt whole (number_in (map greatest vars) from)
+trim_wrong vars whole (Trim from) = nat_lt (number_in (map least vars) from) SHORTEST_PACKET || nat_lt whole (number_in (map greatest vars) from)
 
 -- a write that ends after the room
 abbrev pub writes_past : ℕ → Instr → Bool
@@ -75,11 +77,11 @@ touches instr (Some at) = writes_byte instr at || writes_byte instr (at + 9)
 abbrev pub touches_shape : List Instr → Instr → Bool
 touches_shape instrs instr = list_any (λ other. touches instr (header_place other)) instrs
 
--- a program is accepted: at most one trim, and that in its range, a stamped packet of at least 30 bytes, and no instruction that breaks a rule
+-- a program is accepted: at most one trim, and that in its range, a stamped packet not shorter than the shortest, and no instruction that breaks a rule
 abbrev pub accepts : List Variable → List ℕ → Bool → List Instr → Bool
 accepts vars template stamped instrs =
     let shortest = least_length vars instrs (length template) in
     let room = room_of shortest stamped in
-    nat_le (count_by is_trim instrs) 1 && not (list_any (trim_wrong vars (length template)) instrs) && not (stamped && nat_lt shortest 30)
+    nat_le (count_by is_trim instrs) 1 && not (list_any (trim_wrong vars (length template)) instrs) && not (stamped && nat_lt shortest SHORTEST_STAMPED)
     && not (list_any (writes_past room) instrs) && not (list_any (misses_header template room) instrs)
     && not (list_any (touches_shape instrs) instrs)

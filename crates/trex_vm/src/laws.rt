@@ -10,6 +10,7 @@ ghost use Rattle.trex_vm.specs.Packet.{packet};
 ghost use Rattle.trex_vm.specs.Rules.{accepts};
 ghost use Rattle.trex_vm.specs.Program.{AreOperandsOf, AreSound, AreValuesOf, IsTemplateOf, plan_of};
 
+use trex_layers::{LONGEST_PACKET, SHORTEST_PACKET};
 use trex_vars::values_lie_between;
 
 /// A program that is accepted is meant for its template, and for the values of its variables at each packet number.
@@ -22,12 +23,12 @@ pub fn programs_fit()
     // A packet is no longer than its template.
     ensures short { (instrs : List AnInstr) (vars : List Variable) (template : List ℕ) (stamp : Option AStamp) (n : ℕ)
         → AreOperandsOf vars instrs → AreSound vars → accepts vars template (is_some stamp) instrs ≡ true
-        → 14 ≤ length template → length template ≤ 9216
+        → SHORTEST_PACKET ≤ length template → length template ≤ LONGEST_PACKET
         → length (packet instrs (map (λ v. value_at v n) vars) stamp template) ≤ length template }
     // A packet with a latency header ends in it.
     ensures stamped { (instrs : List AnInstr) (vars : List Variable) (template : List ℕ) (stamp : AStamp) (n : ℕ)
         → AreOperandsOf vars instrs → AreSound vars → accepts vars template true instrs ≡ true
-        → 14 ≤ length template → length template ≤ 9216
+        → SHORTEST_PACKET ≤ length template → length template ≤ LONGEST_PACKET
         → (front : List ℕ) × (packet instrs (map (λ v. value_at v n) vars) (Some stamp) template ≡ front ++ stamp_bytes stamp) }
 {
     values_lie_between();

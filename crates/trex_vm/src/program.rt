@@ -9,6 +9,7 @@ use crate::instr::Instr;
 use crate::laws::programs_fit;
 use crate::rules::{accepts, least_length};
 use std::marker::Model;
+use trex_layers::{LONGEST_PACKET, SHORTEST_PACKET};
 use trex_vars::VarSpec;
 
 /// The instructions of a stream, checked once against its variables and its template.
@@ -43,8 +44,8 @@ impl Program {
         template: &[u8],
         stamped: bool,
     ) -> Option<Program>
-        requires long { 14 ≤ length template.now }
-        requires short { length template.now ≤ 9216 }
+        requires long { SHORTEST_PACKET ≤ length template.now }
+        requires short { length template.now ≤ LONGEST_PACKET }
         requires operands { AreOperandsOf (map variable_of vars.now) instrs.items }
         requires sound { AreSound (map variable_of vars.now) }
         ensures accepts { is_some result ≡ accepts (map variable_of vars.now) template.now stamped instrs.items }

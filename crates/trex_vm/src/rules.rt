@@ -12,17 +12,13 @@ ghost use Rattle.trex_vm.specs.Program.{TakesFrom};
 use crate::fix::{HEADER_SUM, PROTOCOL, least_segment, protocol_of, sum_place, words_to_bytes};
 use crate::instr::{Instr, Operand};
 use crate::write::part_of;
+use trex_layers::SHORTEST_PACKET;
+use trex_stamp::{SHORTEST_STAMPED, STAMP_SIZE};
 use trex_vars::VarSpec;
 
 const VERSION: u8 = 4;
 
 const LEAST_HEADER: usize = 20;
-
-const LEAST_PACKET: u64 = 14;
-
-const LEAST_STAMPED: usize = 30;
-
-const STAMP_LEN: usize = 16;
 
 // the least number that an operand takes
 fn least_in(vars: &[VarSpec], from: Operand) -> u64
@@ -58,7 +54,7 @@ pub fn room_of(shortest: usize, stamped: bool) -> usize
     ensures { result ≡ room_of shortest stamped }
 {
     if stamped {
-        shortest.saturating_sub(STAMP_LEN)
+        shortest.saturating_sub(STAMP_SIZE)
     } else {
         shortest
     }
@@ -78,7 +74,7 @@ pub fn trim_wrong(vars: &[VarSpec], template: usize, instr: &Instr) -> bool
 {
     match *instr {
         Instr::Trim { from } => {
-            least_in(vars, from) < LEAST_PACKET || greatest_in(vars, from) > template as u64
+            least_in(vars, from) < SHORTEST_PACKET as u64 || greatest_in(vars, from) > template as u64
         }
         _ => false,
     }
@@ -246,7 +242,7 @@ pub(crate) fn accepts(vars: &[VarSpec], template: &[u8], stamped: bool, instrs: 
         return false;
     }
     let shortest = least_length(vars, instrs, template.len());
-    if stamped && shortest < LEAST_STAMPED {
+    if stamped && shortest < SHORTEST_STAMPED {
         return false;
     }
     let room = room_of(shortest, stamped);

@@ -14,10 +14,8 @@ use crate::fix::{fix_ipv4, fix_l4};
 use crate::instr::Instr;
 use crate::program::Program;
 use crate::write::{number_in, shift_by, sum_in, write_masked, write_number};
-use trex_stamp::Stamp;
+use trex_stamp::{STAMP_SIZE, Stamp};
 use trex_vars::VarValue;
-
-const STAMP_LEN: usize = 16;
 
 /// Makes a packet at the front of `out`, and answers its length in bytes: the template, cut to the trim's number, with the latency header in
 /// place of its last 16 bytes where there is one, after the program's other instructions in order. What lies in `out` past the template's
@@ -109,17 +107,17 @@ fn apply_all(instrs: &[Instr], values: &[VarValue], bytes: &mut [u8])
 
 // writes the latency header over the last bytes
 fn stamp_end(bytes: &mut [u8], stamp: &Stamp)
-    requires { 16 ≤ length bytes.old }
-    ensures { bytes.new ≡ put (length bytes.old - 16) (stamp_bytes stamp.now) bytes.old }
+    requires { STAMP_SIZE ≤ length bytes.old }
+    ensures { bytes.new ≡ put (length bytes.old - STAMP_SIZE) (stamp_bytes stamp.now) bytes.old }
 {
-    let at = bytes.len() - STAMP_LEN;
-    bytes[at..at + STAMP_LEN].copy_from_slice(&trex_stamp::stamp(stamp));
+    let at = bytes.len() - STAMP_SIZE;
+    bytes[at..at + STAMP_SIZE].copy_from_slice(&trex_stamp::stamp(stamp));
 }
 
 // writes the packet as it is before its instructions
 fn write_front(template: &[u8], stamp: Option<Stamp>, bytes: &mut [u8])
     requires long { length bytes.old ≡ length template.now }
-    requires stamp { IsSome stamp → 16 ≤ length template.now }
+    requires stamp { IsSome stamp → STAMP_SIZE ≤ length template.now }
     ensures { bytes.new ≡ stamped stamp template.now }
 {
     bytes.copy_from_slice(template);
@@ -137,7 +135,7 @@ fn make_packet(
     bytes: &mut [u8],
 )
     requires long { length bytes.old ≡ length template.now }
-    requires stamp { IsSome stamp → 16 ≤ length template.now }
+    requires stamp { IsSome stamp → STAMP_SIZE ≤ length template.now }
     requires operands { All (TakesFrom (length values.now)) instrs.now }
     requires formed { All IsFormed instrs.now }
     requires places { list_any (writes_past (length template.now)) instrs.now ≡ false }
