@@ -8,6 +8,7 @@ use Rattle.std.proofs.lemmas.List.{length-append}
 use Rattle.std.proofs.lemmas.List.Elements.{recursion_from_All}
 use Rattle.std.proofs.lemmas.List.Folds.{list_any-append}
 use Rattle.std.proofs.lemmas.List.Sums.{sum_by-append, sum_by-cons}
+use Rattle.trex_stamp.specs.declared.header.TheConstants.{SHORTEST_STAMPED}
 use Rattle.trex_vars.specs.Variable.{Variable, Tuple}
 use Rattle.trex_vars.specs.Value.{value_at}
 use Rattle.trex_vars.proofs.Between.{value-between}
@@ -146,16 +147,16 @@ accepted vars template stamped steps lengths places =
     let program = program_of steps in
     let shortest = least_length vars program whole in
     let room = room_of shortest stamped in
-    let three = three-none (first_each (twice_rule steps) 0 steps) (first_each (trim_rule vars whole) 0 steps) (rule NoRoomForStamp (stamped && nat_lt shortest 30)) lengths in
+    let three = three-none (first_each (twice_rule steps) 0 steps) (first_each (trim_rule vars whole) 0 steps) (rule NoRoomForStamp (stamped && nat_lt shortest SHORTEST_STAMPED)) lengths in
     let fields = first-none (first_each field_rule 0 steps) (first_each (room_rule room) 0 steps ∷ first_each (fix_rule template room) 0 steps ∷ first_each (shape_rule program) 0 steps ∷ []) places in
     let further = three-none (first_each (room_rule room) 0 steps) (first_each (fix_rule template room) 0 steps) (first_each (shape_rule program) 0 steps) fields.1 in
     let one = (once [] steps three.0).1 refl in
     let few : count_by is_trim program ≤ 1 = omega (arith, count-program steps) in
-    all-six (nat_le (count_by is_trim program) 1) (list_any (trim_wrong vars whole) program) (stamped && nat_lt shortest 30) (list_any (writes_past room) program)
+    all-six (nat_le (count_by is_trim program) 1) (list_any (trim_wrong vars whole) program) (stamped && nat_lt shortest SHORTEST_STAMPED) (list_any (writes_past room) program)
     (list_any (misses_header template room) program) (list_any (touches_shape program) program)
     (few-enough (count_by is_trim program) few)
     (cuts-none vars whole stamped steps lengths)
-    (whole-none NoRoomForStamp (stamped && nat_lt shortest 30) three.2)
+    (whole-none NoRoomForStamp (stamped && nat_lt shortest SHORTEST_STAMPED) three.2)
     (does-program (writes_past room) steps ∙ each-none WriteRoom (does (writes_past room)) 0 steps further.0)
     (does-program (misses_header template room) steps ∙ finds template room steps (each-none BadFix (fix_wrong template room) 0 steps further.1))
     (does-program (touches_shape program) steps ∙ each-none WriteOnShape (does (touches_shape program)) 0 steps further.2)

@@ -2,6 +2,7 @@
 use Rattle.std.specs.Prelude.{ℕ, ◌==◌, ◌&&◌, ◌||◌, not, nat_lt, Bool, true, false, List, [], ◌∷◌, length, take, Option, None, Some, is_none, is_some}
 use Rattle.std.specs.List.{list_any}
 use Rattle.trex_layers.specs.declared.places.Layers.{Layers}
+use Rattle.trex_stamp.specs.declared.header.TheConstants.{SHORTEST_STAMPED}
 use Rattle.trex_vars.specs.Variable.{Variable}
 use Rattle.trex_vars.specs.Check.{fault_of}
 use Rattle.trex_vm.specs.declared.instr.Instr.{Instr}
@@ -95,7 +96,7 @@ unfoldable pub length_rules : List Variable → ℕ → Bool → List Step → O
 length_rules vars whole stamped steps = first (
     first_each (twice_rule steps) 0 steps
     ∷ first_each (trim_rule vars whole) 0 steps
-    ∷ rule NoRoomForStamp (stamped && nat_lt (least_length vars (program_of steps) whole) 30)
+    ∷ rule NoRoomForStamp (stamped && nat_lt (least_length vars (program_of steps) whole) SHORTEST_STAMPED)
     ∷ [])
 
 -- the rules on the places that are written, in their order: so many bytes stand in front of the latency header

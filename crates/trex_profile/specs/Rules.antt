@@ -3,6 +3,8 @@ use Rattle.std.specs.Prelude.{ℕ, ◌+◌, ◌*◌, ◌^◌, ◌==◌, ◌&&◌
 use Rattle.trex_sched.specs.declared.mode.Mode.{Mode}
 use Rattle.trex_sched.specs.declared.mode.Mode.TheVariants.{Continuous, SingleBurst, MultiBurst}
 use Rattle.trex_layers.specs.Layers.{parsed}
+use Rattle.trex_layers.specs.declared.sizes.TheConstants.{LONGEST_PACKET, SHORTEST_PACKET}
+use Rattle.trex_stamp.specs.declared.header.TheConstants.{SHORTEST_STAMPED}
 use Rattle.trex_vm.specs.Rules.{least_length, room_of}
 use Rattle.trex_profile.specs.declared.raw.RateKind.{RateKind}
 use Rattle.trex_profile.specs.declared.raw.RateKind.TheVariants.{Pps, BpsL1, BpsL2}
@@ -31,7 +33,7 @@ numerator s = numerator_of s.rate.kind (length s.template)
 
 -- the template is shorter than an Ethernet header or longer than the longest packet
 abbrev pub length_wrong : List ℕ → Bool
-length_wrong template = nat_lt (length template) 14 || nat_lt 9216 (length template)
+length_wrong template = nat_lt (length template) SHORTEST_PACKET || nat_lt LONGEST_PACKET (length template)
 
 -- a burst of the mode has no packets
 abbrev pub no_packets : Mode → Bool
@@ -80,7 +82,7 @@ value_list s =
     ∷ first_each (unknown_rule (parsed s.template) (givens 0 s.instrs)) 0 s.instrs
     ∷ first_each (twice_rule (steps s)) 0 (steps s)
     ∷ first_each (trim_rule (variables s) (length s.template)) 0 (steps s)
-    ∷ rule NoRoomForStamp (is_some s.flow && nat_lt (shortest s) 30)
+    ∷ rule NoRoomForStamp (is_some s.flow && nat_lt (shortest s) SHORTEST_STAMPED)
     ∷ first_each field_rule 0 (steps s)
     ∷ first_each (room_rule (room s)) 0 (steps s)
     ∷ first_each (fix_rule s.template (room s)) 0 (steps s)

@@ -1,5 +1,6 @@
 -- What an admitted stream's packets are made of (own).
 use Rattle.std.specs.Prelude.{◌≡◌, ℕ, ◌≤◌, ◌<◌, ◌^◌, length, map, is_some, IfSome}
+use Rattle.trex_layers.specs.declared.sizes.TheConstants.{LONGEST_PACKET}
 use Rattle.trex_vars.specs.Variable.{variable_of}
 use Rattle.trex_vars.specs.Value.{value_at}
 use Rattle.trex_vm.specs.Program.{AreSound, AreValuesOf, IsTemplateOf, plan_of}
@@ -19,6 +20,6 @@ pub record IsSpecOf (s : Stream) (spec : StreamSpec) : Type 0 where
   pub plan : spec.program ≡ plan_of (program s) (variables s) s.template (is_some s.flow)
   pub fits : IsTemplateOf spec.program s.template
   pub values : (number : ℕ) → AreValuesOf spec.program (map (λ v. value_at v number) (variables s))
-  pub short : (number time : ℕ) → length (packet_of s number time) ≤ 9216
+  pub short : (number time : ℕ) → length (packet_of s number time) ≤ LONGEST_PACKET
   pub flows : IfSome s.flow (λ flow. flow < 2 ^ 16)
   pub stamped : EndsInStamp s

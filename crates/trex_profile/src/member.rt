@@ -1,4 +1,5 @@
 ghost use Rattle.std.specs.Prelude.{◌≡◌, ◌≤◌, ◌<◌, length, vec_len, Some};
+ghost use Rattle.trex_layers.specs.declared.sizes.TheConstants.{LONGEST_PACKET, SHORTEST_PACKET};
 ghost use Rattle.trex_sched.specs.Times.{period_of};
 ghost use Rattle.trex_profile.specs.Rules.{numerator_of};
 
@@ -24,8 +25,8 @@ pub struct StreamSpec {
     pub program: Program,
     /// The flow number of the latency headers, where the packets have them.
     pub flow: Option<u16>,
-    pub ghost at_least: { 14 ≤ vec_len template },
-    pub ghost at_most: { vec_len template ≤ 9216 },
+    pub ghost at_least: { SHORTEST_PACKET ≤ vec_len template },
+    pub ghost at_most: { vec_len template ≤ LONGEST_PACKET },
 }
 
 /// A stream whose values keep the rules.

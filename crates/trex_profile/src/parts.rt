@@ -17,7 +17,7 @@ use crate::raw::RawInstr;
 use crate::rules::{length_breach, place_breach};
 use crate::step::{Step, program_of, steps_of, variables_of};
 use std::alloc::Global;
-use trex_layers::Layers;
+use trex_layers::{LONGEST_PACKET, Layers, SHORTEST_PACKET};
 use trex_vars::VarSpec;
 use trex_vm::{Program, least_length, room_of};
 
@@ -65,8 +65,8 @@ pub(crate) fn program_for(
     stamped: bool,
 ) -> Result<Program, StreamFault>
     requires few { length steps.now ≤ 256 }
-    requires long { 14 ≤ length template.now }
-    requires short { length template.now ≤ 9216 }
+    requires long { SHORTEST_PACKET ≤ length template.now }
+    requires short { length template.now ≤ LONGEST_PACKET }
     requires sound { AreSound (map variable_of vars.now) }
     requires operands { AreOperandsOf (map variable_of vars.now) (program_of steps.now) }
     requires each { All (λ step. All (TakesFrom (length vars.now)) (instrs_of step)) steps.now }

@@ -4,6 +4,7 @@ use crate::member::{Member, StreamSpec};
 use std::alloc::Global;
 use std::marker::Model;
 use trex_io::Memory;
+use trex_layers::LONGEST_PACKET;
 use trex_sched::ChainSpec;
 
 /// A profile that keeps all rules. Contracts see it as the list of its streams.
@@ -68,7 +69,7 @@ impl Profile {
         ensures value { result ≡ length self.now }
         // A profile keeps the rules, and no packet is longer than the longest.
         ensures kept { refusal_of self.now ≡ None }
-        ensures short { AllByRecursion (λ s. (number time : ℕ) → length (packet_of s number time) ≤ 9216) self.now }
+        ensures short { AllByRecursion (λ s. (number time : ℕ) → length (packet_of s number time) ≤ LONGEST_PACKET) self.now }
         // Each packet of a stream that has a flow ends in its latency header.
         ensures stamped { AllByRecursion EndsInStamp self.now }
         ensures flows { AllByRecursion (λ s. IfSome s.flow (λ flow. flow < 2 ^ 16)) self.now }

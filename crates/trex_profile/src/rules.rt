@@ -12,13 +12,11 @@ ghost use Rattle.trex_profile.specs.Steps.{instrs_of, program_of};
 use crate::refusal::Breach;
 use crate::rule::Rule;
 use crate::step::Step;
+use trex_stamp::SHORTEST_STAMPED;
 use trex_vars::VarSpec;
 use trex_vm::{
     Instr, is_trim, least_length, misses_header, touches_shape, trim_wrong, writes_past,
 };
-
-/// The least number of bytes of a stamped packet: an Ethernet header and the latency header.
-const LEAST_STAMPED: usize = 30;
 
 /// Whether a step is a trim.
 fn cuts(step: &Step) -> bool
@@ -96,7 +94,7 @@ pub(crate) fn length_breach(
     if let Some(breach) = wrong_trim(vars, template, steps) {
         return Some(breach);
     }
-    if stamped && least_length(vars, program, template) < LEAST_STAMPED {
+    if stamped && least_length(vars, program, template) < SHORTEST_STAMPED {
         return Some(Breach::of_stream(Rule::NoRoomForStamp));
     }
     None

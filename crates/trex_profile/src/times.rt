@@ -10,12 +10,8 @@ ghost use Rattle.trex_profile.specs.Stream.{raw_stream};
 use crate::fault::StreamFault;
 use crate::raw::{RateKind, RawStream};
 use crate::rule::Rule;
+use trex_layers::{LONGEST_PACKET, SHORTEST_PACKET};
 use trex_sched::{Mode, Period};
-
-/// The number of bytes of a packet: an Ethernet header at least, a jumbo frame at most.
-const SHORTEST_TEMPLATE: usize = 14;
-
-const LONGEST_TEMPLATE: usize = 9_216;
 
 /// 10^15 nanoseconds times millionths: a second, and a packet or a bit.
 const SECOND: u128 = 1_000_000_000_000_000;
@@ -25,11 +21,11 @@ const SECOND: u128 = 1_000_000_000_000_000;
 pub(crate) fn period_of(raw: &RawStream) -> Result<Period, StreamFault>
     ensures value { Gives (λ _. raw_stream raw.now) result (unless (time_rules (raw_stream raw.now)) (raw_stream raw.now)) }
     ensures period { IfOk result (λ period. period_of (numerator (raw_stream raw.now)) raw.now.rate.value ≡ Some period) }
-    ensures at_least { IfOk result (λ _. 14 ≤ length raw.now.template.items) }
-    ensures at_most { IfOk result (λ _. length raw.now.template.items ≤ 9216) }
+    ensures at_least { IfOk result (λ _. SHORTEST_PACKET ≤ length raw.now.template.items) }
+    ensures at_most { IfOk result (λ _. length raw.now.template.items ≤ LONGEST_PACKET) }
 {
     let length = raw.template.len();
-    if length < SHORTEST_TEMPLATE || length > LONGEST_TEMPLATE {
+    if length < SHORTEST_PACKET || length > LONGEST_PACKET {
         return Err(StreamFault::of_stream(Rule::BadLength));
     }
     if raw.rate.value == 0 {
@@ -46,7 +42,7 @@ pub(crate) fn period_of(raw: &RawStream) -> Result<Period, StreamFault>
 
 /// The numerator of the period in nanoseconds, where the denominator is the rate in millionths.
 fn numerator(kind: RateKind, length: usize) -> u128
-    requires { length ≤ 9216 }
+    requires { length ≤ LONGEST_PACKET }
     ensures value { result ≡ numerator_of kind length }
     ensures bound { result < 10 ^ 20 }
 {

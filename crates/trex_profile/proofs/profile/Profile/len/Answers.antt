@@ -1,6 +1,7 @@
 use Rattle.std.proofs.Common.{◌≡◌, ℕ, ◌≤◌, ◌<◌, ◌^◌, List, length, map, All, IfSome, subst}
 use Rattle.std.specs.List.{AllByRecursion}
 use Rattle.std.proofs.lemmas.List.Elements.{All-map, recursion_from_All}
+use Rattle.trex_layers.specs.declared.sizes.TheConstants.{LONGEST_PACKET}
 use Rattle.trex_profile.specs.declared.member.Member.{Member}
 use Rattle.trex_profile.specs.Member.{member_stream}
 use Rattle.trex_profile.specs.Packets.{EndsInStamp, packet_of}
@@ -9,7 +10,7 @@ use Rattle.trex_profile.proofs.profile.Profile.len.Goals as goal
 
 -- no packet of a stream is longer than the longest
 abbrev IsShort : Stream → Type 0
-IsShort s = (number time : ℕ) → length (packet_of s number time) ≤ 9216
+IsShort s = (number time : ℕ) → length (packet_of s number time) ≤ LONGEST_PACKET
 
 -- what holds of each member holds of each stream
 each-stream : (P : Stream → Type 0) (members : List Member) (p : List Stream) → map member_stream members ≡ p → All (λ m. P (member_stream m)) members
