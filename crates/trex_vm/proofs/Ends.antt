@@ -1,8 +1,11 @@
 -- The ends between which the numbers of operands lie, and what an accepted program has.
-use Rattle.std.proofs.Common.{◌≡◌, ℕ, ◌<◌, ◌≤◌, List, [], ◌∷◌, length, get_or, map, sym, ap, ◌∙◌, arith, Bool, true, false, not, ◌&&◌, nat_le, nat_lt, All, IsTrue}
+use Rattle.std.proofs.Common.{◌≡◌, ℕ, ◌<◌, ◌≤◌, List, [], ◌∷◌, length, get_or, map, refl, sym, ap, subst, ◌∙◌, arith, Option, Some, None, IfSome, Bool, true, false, not, ◌&&◌, nat_le, nat_lt, All, IsTrue}
 use Rattle.std.proofs.lemmas.Bool.{and_parts, or_parts, not-true, leb-true, ltb-false}
 use Rattle.std.proofs.lemmas.List.{get_or-map, length-map}
 use Rattle.std.specs.List.{AllByRecursion, list_any, count_by}
+use Rattle.std.specs.Option.{option_map_or}
+use Rattle.trex_layers.specs.declared.sizes.TheConstants.{LONGEST_PACKET, SHORTEST_PACKET}
+use Rattle.trex_stamp.specs.declared.header.TheConstants.{SHORTEST_STAMPED}
 use Rattle.trex_vars.specs.Variable.{Variable, variable_of}
 use Rattle.trex_vars.specs.Bounds.{least, greatest, IsBetween}
 use Rattle.trex_vars.specs.declared.spec.VarSpec.{VarSpec}
@@ -12,10 +15,11 @@ use Rattle.trex_vm.specs.declared.instr.Operand.{Operand}
 use Rattle.trex_vm.specs.declared.instr.Part.{Part}
 use Rattle.trex_vm.specs.declared.instr.Part.TheVariants.{Whole, Ip, Port}
 use Rattle.trex_vm.specs.declared.instr.Instr.{Instr}
-use Rattle.trex_vm.specs.declared.instr.Instr.TheVariants.{Write, WriteMask, FixIpv4, FixL4, Trim}
+use Rattle.trex_vm.specs.declared.instr.Instr.TheVariants.{Write, WriteMask}
+use Rattle.trex_vm.specs.Effect.{trim_of}
 use Rattle.trex_vm.specs.Write.{part_of, number_in}
 use Rattle.trex_vm.specs.Packet.{trimmed}
-use Rattle.trex_vm.specs.Rules.{least_length, room_of, is_trim, trim_wrong, writes_past, misses_header, touches_shape, accepts}
+use Rattle.trex_vm.specs.Rules.{least_length, room_of, is_trim, cuts_wrong, trim_wrong, writes_past, misses_header, touches_shape, accepts}
 use Rattle.trex_vm.specs.Program.{IsFormed, IsProgram, TakesFrom, plan_of}
 
 -- the number that an operand takes from values that a function gives
@@ -55,45 +59,57 @@ number-between f vars from d between below =
     (omega (arith, both.0), omega (arith, both.1))
 
 -- what a trim in its range tells
-trim-tells : (vars : List Variable) (whole : ℕ) (from : Operand) → trim_wrong vars whole (Trim from) ≡ false
-    → (14 ≤ number_in (map least vars) from) × (number_in (map greatest vars) from ≤ whole)
+trim-tells : (vars : List Variable) (whole : ℕ) (from : Operand) → cuts_wrong vars whole from ≡ false
+    → (SHORTEST_PACKET ≤ number_in (map least vars) from) × (number_in (map greatest vars) from ≤ whole)
 trim-tells vars whole from fine =
     let low = number_in (map least vars) from in
     let high = number_in (map greatest vars) from in
-    let cut = or_parts (nat_lt low 14) (nat_lt whole high) fine in
-    (ltb-false low 14 cut.0, ltb-false whole high cut.1)
+    let cut = or_parts (nat_lt low SHORTEST_PACKET) (nat_lt whole high) fine in
+    (ltb-false low SHORTEST_PACKET cut.0, ltb-false whole high cut.1)
+
+-- the operand of a trim is the instruction's
+trim-takes : (count : ℕ) (i : Instr) (from : Operand) → trim_of i ≡ Some from → TakesFrom count i → from.var < count
+trim-takes count (Write from at add big) other is takes = absurd (cc)
+trim-takes count (WriteMask from at cast mask shift add big) other is takes = absurd (cc)
+trim-takes count i other is takes = let Takes : Option Operand → Type 0 = λ o. IfSome o (λ from. from.var < count) in subst Takes is takes
 
 -- the packet's length lies from the least packet length to the template's length
 pub trimmed-between : (f : Variable → VarValue) (vars : List Variable) (d : Variable) (instrs : List Instr) (whole : ℕ) → AreBetween f vars
     → AllByRecursion (TakesFrom (length vars)) instrs → list_any (trim_wrong vars whole) instrs ≡ false
     → (least_length vars instrs whole ≤ trimmed (map f vars) instrs whole) × (trimmed (map f vars) instrs whole ≤ whole)
 trimmed-between f vars d [] whole between operands fine = (omega arith, omega arith)
-trimmed-between f vars d (Write from at add big ∷ rest) whole between operands fine = trimmed-between f vars d rest whole between operands.1 fine
-trimmed-between f vars d (WriteMask from at cast mask shift add big ∷ rest) whole between operands fine = trimmed-between f vars d rest whole between operands.1 fine
-trimmed-between f vars d (FixIpv4 at ∷ rest) whole between operands fine = trimmed-between f vars d rest whole between operands.1 fine
-trimmed-between f vars d (FixL4 ip header kind ∷ rest) whole between operands fine = trimmed-between f vars d rest whole between operands.1 fine
-trimmed-between f vars d (Trim from ∷ rest) whole between operands fine =
-    let cut = or_parts (trim_wrong vars whole (Trim from)) (list_any (trim_wrong vars whole) rest) fine in
-    let range = trim-tells vars whole from cut.0 in
-    let both = number-between f vars from d between operands.0 in
-    (both.0, omega (arith, both.1, range.1))
+trimmed-between f vars d (i ∷ rest) whole between operands fine =
+    let cut = or_parts (trim_wrong vars whole i) (list_any (trim_wrong vars whole) rest) fine in
+    by_trim (trim_of i) (λ from is. trim-takes (length vars) i from is operands.0) cut.0 (trimmed-between f vars d rest whole between operands.1 cut.1)
+  where
+    by_trim : (trim : Option Operand) → ((from : Operand) → trim ≡ Some from → from.var < length vars) → option_map_or (cuts_wrong vars whole) trim false ≡ false
+        → (least_length vars rest whole ≤ trimmed (map f vars) rest whole) × (trimmed (map f vars) rest whole ≤ whole)
+        → (option_map_or (number_in (map least vars)) trim (least_length vars rest whole) ≤ option_map_or (number_in (map f vars)) trim (trimmed (map f vars) rest whole))
+        × (option_map_or (number_in (map f vars)) trim (trimmed (map f vars) rest whole) ≤ whole)
+    by_trim None takes fine later = later
+    by_trim (Some from) takes fine later =
+        let range = trim-tells vars whole from fine in
+        let both = number-between f vars from d between (takes from refl) in
+        (both.0, omega (arith, both.1, range.1))
 
--- the least packet length is at least 14
-pub least_length-bound : (vars : List Variable) (instrs : List Instr) (whole : ℕ) → 14 ≤ whole → list_any (trim_wrong vars whole) instrs ≡ false
-    → 14 ≤ least_length vars instrs whole
+-- the least packet length is at least that of the shortest packet
+pub least_length-bound : (vars : List Variable) (instrs : List Instr) (whole : ℕ) → SHORTEST_PACKET ≤ whole → list_any (trim_wrong vars whole) instrs ≡ false
+    → SHORTEST_PACKET ≤ least_length vars instrs whole
 least_length-bound vars [] whole long fine = long
-least_length-bound vars (Write from at add big ∷ rest) whole long fine = least_length-bound vars rest whole long fine
-least_length-bound vars (WriteMask from at cast mask shift add big ∷ rest) whole long fine = least_length-bound vars rest whole long fine
-least_length-bound vars (FixIpv4 at ∷ rest) whole long fine = least_length-bound vars rest whole long fine
-least_length-bound vars (FixL4 ip header kind ∷ rest) whole long fine = least_length-bound vars rest whole long fine
-least_length-bound vars (Trim from ∷ rest) whole long fine =
-    (trim-tells vars whole from (or_parts (trim_wrong vars whole (Trim from)) (list_any (trim_wrong vars whole) rest) fine).0).0
+least_length-bound vars (i ∷ rest) whole long fine =
+    let cut = or_parts (trim_wrong vars whole i) (list_any (trim_wrong vars whole) rest) fine in
+    by_trim (trim_of i) cut.0 (least_length-bound vars rest whole long cut.1)
+  where
+    by_trim : (trim : Option Operand) → option_map_or (cuts_wrong vars whole) trim false ≡ false → SHORTEST_PACKET ≤ least_length vars rest whole
+        → SHORTEST_PACKET ≤ option_map_or (number_in (map least vars)) trim (least_length vars rest whole)
+    by_trim None fine later = later
+    by_trim (Some from) fine later = (trim-tells vars whole from fine).0
 
 -- what an accepted program has
 pub record Accepted (vars : List Variable) (template : List ℕ) (stamped : Bool) (instrs : List Instr) : Type 0 where
   pub trims : count_by is_trim instrs ≤ 1
   pub cuts : list_any (trim_wrong vars (length template)) instrs ≡ false
-  pub stamp : (stamped && nat_lt (least_length vars instrs (length template)) 30) ≡ false
+  pub stamp : (stamped && nat_lt (least_length vars instrs (length template)) SHORTEST_STAMPED) ≡ false
   pub places : list_any (writes_past (room_of (least_length vars instrs (length template)) stamped)) instrs ≡ false
   pub headers : list_any (misses_header template (room_of (least_length vars instrs (length template)) stamped)) instrs ≡ false
   pub shape : list_any (touches_shape instrs) instrs ≡ false
@@ -114,12 +130,12 @@ accepts-tells vars template stamped instrs accepted =
     let all = six_parts (nat_le (count_by is_trim instrs) 1) _ _ _ _ _ accepted in
     record { trims = leb-true (count_by is_trim instrs) 1 all.0; cuts = all.1; stamp = all.2; places = all.3; headers = all.4; shape = all.5 }
 
-pub stamp-tells : (stamped : Bool) (shortest : ℕ) → (stamped && nat_lt shortest 30) ≡ false → IsTrue stamped → 30 ≤ shortest
-stamp-tells true shortest fine is = ltb-false shortest 30 fine
+pub stamp-tells : (stamped : Bool) (shortest : ℕ) → (stamped && nat_lt shortest SHORTEST_STAMPED) ≡ false → IsTrue stamped → SHORTEST_STAMPED ≤ shortest
+stamp-tells true shortest fine is = ltb-false shortest SHORTEST_STAMPED fine
 stamp-tells false shortest fine is = absurd (cc)
 
 -- what is accepted is a program
-pub accepted-program : (instrs : List Instr) (vars : List Variable) (template : List ℕ) (stamped : Bool) → 14 ≤ length template → length template ≤ 9216
+pub accepted-program : (instrs : List Instr) (vars : List Variable) (template : List ℕ) (stamped : Bool) → SHORTEST_PACKET ≤ length template → length template ≤ LONGEST_PACKET
     → All IsFormed instrs → least_length vars instrs (length template) ≤ length template → Accepted vars template stamped instrs
     → IsProgram (plan_of instrs vars template stamped)
 accepted-program instrs vars template stamped long short formed cut known = record {

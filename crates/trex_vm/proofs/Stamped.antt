@@ -12,7 +12,8 @@ use Rattle.trex_stamp.specs.declared.header.Stamp.{Stamp}
 use Rattle.trex_stamp.specs.Stamp.{stamp_bytes}
 use Rattle.trex_vars.specs.declared.value.VarValue.{VarValue}
 use Rattle.trex_vm.specs.declared.instr.Instr.{Instr}
-use Rattle.trex_vm.specs.Cover.{writes_at, writes_byte, writes_size}
+use Rattle.trex_vm.specs.Effect.{end_of}
+use Rattle.trex_vm.specs.Cover.{span_of, writes_byte}
 use Rattle.trex_vm.specs.Packet.{front, packet, stamped}
 use Rattle.trex_vm.specs.Program.{Plan, room}
 use Rattle.trex_vm.specs.Rules.{misses_header, writes_past}
@@ -41,7 +42,7 @@ stamped-rest s b long =
     ∙ append-nil (stamp_bytes s)
 
 -- a byte behind the room is written by no instruction
-unwritten : (i : Instr) (limit k : ℕ) → writes_at i + writes_size i ≤ limit → limit ≤ k → writes_byte i k ≡ false
+unwritten : (i : Instr) (limit k : ℕ) → end_of (span_of i) ≤ limit → limit ≤ k → writes_byte i k ≡ false
 unwritten i limit k within behind = grind (arith, nat_tests)
 
 -- a packet with a latency header ends in it
@@ -60,9 +61,9 @@ packet-stamped p values s template runs =
     let behind : room p ≤ m = Runs-room p values (Some s) template runs in
     let places = none_pass (writes_past (room p)) p.instrs runs.program.places in
     let headers = none_pass (misses_header template (room p)) p.instrs runs.meant.headers in
-    let within : All (λ i. writes_at i + writes_size i ≤ room p) p.instrs =
+    let within : All (λ i. end_of (span_of i) ≤ room p) p.instrs =
     λ j d below. place-within (get_or p.instrs j d) template (room p) (places j d below) (headers j d below) in
-    let each = recursion_from_All (λ i. writes_at i + writes_size i ≤ room p) p.instrs within in
+    let each = recursion_from_All (λ i. end_of (span_of i) ≤ room p) p.instrs within in
     let rest : drop m whole ≡ drop m b = rest-same m whole b (omega arith) (omega arith) (λ k from below.
     get_or-applied values p.instrs b (room p) k each (omega arith)
     (recursion_from_All (λ i. writes_byte i k ≡ false) p.instrs (λ j d less. unwritten (get_or p.instrs j d) (room p) k (within j d less) (omega arith)))) in

@@ -1,10 +1,11 @@
 -- What an instruction writes, what stays, and why its header verifies. Each law goes by the instruction here, and lists are inductions that
 -- never look into one.
-use Rattle.std.proofs.Common.{◌≡◌, ℕ, ◌+◌, ◌-◌, ◌*◌, ◌/◌, ◌%◌, ◌==◌, ◌<◌, ◌≤◌, ◌⊎◌, inl, inr, List, [], ◌∷◌, ◌++◌, length, get_or, take, drop, refl, sym, ap, ◌∙◌, arith, cond, Bool, true, false, not, nat_le, nat_lt, ◌&&◌, IfSome}
+use Rattle.std.proofs.Common.{◌≡◌, ℕ, ◌+◌, ◌-◌, ◌*◌, ◌/◌, ◌%◌, ◌==◌, ◌<◌, ◌≤◌, ◌⊎◌, inl, inr, List, [], ◌∷◌, ◌++◌, length, get_or, take, drop, refl, sym, ap, ◌∙◌, arith, cond, Bool, true, false, not, nat_le, nat_lt, ◌&&◌, Option, Some, None, IfSome, IsSomeAnd}
 use Rattle.std.proofs.lemmas.Bool.{cases_lt, false≢true, and_parts, and_from, not-false, not_from_true, leb-true, le-leb, lt-ltb, le-ltb, ltb-false, eqb-true}
 use Rattle.std.proofs.lemmas.List.{drop-drop}
 use borrow.Rule.Slice.PartMut.{put_mid}
 use Rattle.std.specs.List.{AllByRecursion, slice_range}
+use Rattle.std.specs.Option.{option_map_or}
 use Rattle.byteorder.specs.Endian.{big_bytes}
 use Rattle.byteorder.specs.Numbers.{length-bytes_high_first, length-bytes_low_first}
 use Rattle.trex_sum.specs.Checksum.{sum_of, fold_of}
@@ -13,96 +14,111 @@ use Rattle.trex_fields.proofs.Puts.{length-put, get_or-put_before, get_or-put_af
 use Rattle.trex_vars.specs.declared.value.VarValue.{VarValue}
 use Rattle.trex_vm.specs.declared.instr.L4Kind.{L4Kind}
 use Rattle.trex_vm.specs.declared.instr.L4Kind.TheVariants.{Tcp, Udp}
+use Rattle.trex_vm.specs.declared.effect.Fix.{Fix}
+use Rattle.trex_vm.specs.declared.effect.Fix.TheVariants.{Header, Segment}
+use Rattle.trex_vm.specs.declared.effect.Span.{Span}
 use Rattle.trex_vm.specs.declared.instr.Instr.{Instr}
-use Rattle.trex_vm.specs.declared.instr.Instr.TheVariants.{Write, WriteMask, FixIpv4, FixL4, Trim}
-use Rattle.trex_vm.specs.Fix.{summed, header_length, header_at, written_sum, least_segment, protocol_of, sum_place, segment_length, segment_fits, segment_at, pseudo_header}
+use Rattle.trex_vm.specs.declared.instr.Instr.TheVariants.{Write, WriteMask}
+use Rattle.trex_vm.specs.Effect.{end_of, write_of, fix_of}
+use Rattle.trex_vm.specs.Fix.{summed, header_length, header_at, written_sum, least_segment, protocol_of, sum_place, segment_length, segment_fits, segment_at, pseudo_header, field_of, fixed, header_of}
 use Rattle.trex_vm.specs.Write.{bytes_in, sum_in, shifted, masked, number_at}
 use Rattle.trex_vm.specs.Packet.{wrote, applied}
-use Rattle.trex_vm.specs.Cover.{writes_at, writes_size, writes_byte, IsWithin, Covers, CoversSegment, HeaderVerifies}
-use Rattle.trex_vm.specs.Rules.{writes_past, has_ipv4, misses_header, header_place}
+use Rattle.trex_vm.specs.Cover.{changed, span_of, writes_byte, IsWithin, Covers, CoversByte, CoversSegment, FixVerifies, HeaderVerifies}
+use Rattle.trex_vm.specs.Rules.{writes_past, has_ipv4, finds_header, misses_header}
 use Rattle.trex_sum.proofs.Completing.{Completes-plain}
 use Rattle.trex_vm.proofs.Fixed.{Completes-written_sum, HoldsField-header_at, HoldsField-segment_at, summed-verifies, segment_fits-tells, number-same, pseudo_header-same, sum_place-within}
 
--- some bytes of a size stand at a place, and the others are as they were
-pub record Puts (at size : ℕ) (b c : List ℕ) : Type 0 where
+-- some bytes are put there, and the others are as they were
+pub record Puts (span : Span) (b c : List ℕ) : Type 0 where
   pub new : List ℕ
-  pub long : length new ≡ size
-  pub is : c ≡ put at new b
+  pub long : length new ≡ span.size
+  pub is : c ≡ put span.at new b
 
 length-bytes_in : (big : Bool) (size n : ℕ) → length (bytes_in big size n) ≡ size
 length-bytes_in true size n = length-bytes_high_first size n
 length-bytes_in false size n = length-bytes_low_first 0 size n
 
-Puts-summed : (written : ℕ → ℕ) (part : List ℕ → List ℕ) (field : ℕ) (b : List ℕ) → field + 2 ≤ length b → Puts field 2 b (summed written part field b)
+Puts-summed : (written : ℕ → ℕ) (part : List ℕ → List ℕ) (field : ℕ) (b : List ℕ) → field + 2 ≤ length b → Puts (record { at = field; size = 2 }) b (summed written part field b)
 unfolding summed
 Puts-summed written part field b room =
     let zeroed = put field (0 ∷ 0 ∷ []) b in
     let n = written (65535 - fold_of (sum_of (part zeroed))) in
     record { new = big_bytes 2 n; long = refl; is = put-put field (big_bytes 2 n) (0 ∷ 0 ∷ []) b room refl }
 
-Puts-if : (at size : ℕ) (b c : List ℕ) (t : Bool) → Puts at size b c → (cond t c b ≡ b) ⊎ Puts at size b (cond t c b)
-Puts-if at size b c true puts = inr puts
-Puts-if at size b c false puts = inl refl
+Puts-if : (span : Span) (b c : List ℕ) (t : Bool) → Puts span b c → (cond t c b ≡ b) ⊎ Puts span b (cond t c b)
+Puts-if span b c true puts = inr puts
+Puts-if span b c false puts = inl refl
+
+-- a fix leaves the bytes, or writes its field
+fixed-puts : (fix : Fix) (b : List ℕ) → end_of (field_of fix) ≤ length b → (fixed fix b ≡ b) ⊎ Puts (field_of fix) b (fixed fix b)
+fixed-puts (Header at) b room = inr (Puts-summed (λ n. n) (header_at at) (at + 10) b room)
+fixed-puts (Segment ip header kind) b room =
+    Puts-if (field_of (Segment ip header kind)) b _ (segment_fits kind ip header b) (Puts-summed (written_sum kind) (segment_at kind ip header) (ip + header + sum_place kind) b room)
+
+maybe_fixed-puts : (fix : Option Fix) (b : List ℕ) → end_of (changed None fix) ≤ length b
+    → (option_map_or (λ it. fixed it b) fix b ≡ b) ⊎ Puts (changed None fix) b (option_map_or (λ it. fixed it b) fix b)
+maybe_fixed-puts None b room = inl refl
+maybe_fixed-puts (Some fix) b room = fixed-puts fix b room
 
 -- an instruction leaves the bytes, or writes its own
-pub wrote-puts : (values : List VarValue) (i : Instr) (b : List ℕ) → writes_at i + writes_size i ≤ length b
-    → (wrote values i b ≡ b) ⊎ Puts (writes_at i) (writes_size i) b (wrote values i b)
+pub wrote-puts : (values : List VarValue) (i : Instr) (b : List ℕ) → end_of (span_of i) ≤ length b → (wrote values i b ≡ b) ⊎ Puts (span_of i) b (wrote values i b)
 wrote-puts values (Write from at add big) b room =
     let n = sum_in values from add in inr (record { new = bytes_in big from.size n; long = length-bytes_in big from.size n; is = refl })
 wrote-puts values (WriteMask from at cast mask shift add big) b room =
     let n = masked mask (shifted shift (sum_in values from add)) (number_at big cast at b) in
     inr (record { new = bytes_in big cast n; long = length-bytes_in big cast n; is = refl })
-wrote-puts values (FixIpv4 at) b room = inr (Puts-summed (λ n. n) (header_at at) (at + 10) b room)
-wrote-puts values (FixL4 ip header kind) b room =
-    Puts-if (ip + header + sum_place kind) 2 b _ (segment_fits kind ip header b) (Puts-summed (written_sum kind) (segment_at kind ip header) (ip + header + sum_place kind) b room)
-wrote-puts values (Trim from) b room = inl refl
+wrote-puts values i b room = maybe_fixed-puts (fix_of i) b room
 
 -- an instruction keeps the bytes' number
-pub length-wrote : (values : List VarValue) (i : Instr) (b : List ℕ) → writes_at i + writes_size i ≤ length b → length (wrote values i b) ≡ length b
+pub length-wrote : (values : List VarValue) (i : Instr) (b : List ℕ) → end_of (span_of i) ≤ length b → length (wrote values i b) ≡ length b
 length-wrote values i b room =
     elim (wrote-puts values i b room) [
       | inl same ↦ ap length same
-      | inr puts ↦ ap length puts.is ∙ length-put (writes_at i) puts.new b (omega (arith, puts.long))
+      | inr puts ↦ ap length puts.is ∙ length-put (span_of i).at puts.new b (omega (arith, puts.long))
     ]
 
 -- a byte that an instruction doesn't write stays
-pub get_or-wrote : (values : List VarValue) (i : Instr) (b : List ℕ) (k : ℕ) → writes_at i + writes_size i ≤ length b → writes_byte i k ≡ false
+pub get_or-wrote : (values : List VarValue) (i : Instr) (b : List ℕ) (k : ℕ) → end_of (span_of i) ≤ length b → writes_byte i k ≡ false
     → get_or (wrote values i b) k 0 ≡ get_or b k 0
 get_or-wrote values i b k room not_it =
     elim (wrote-puts values i b room) [
       | inl same ↦ ap (λ (c : List ℕ). get_or c k 0) same
-      | inr puts ↦ ap (λ (c : List ℕ). get_or c k 0) puts.is ∙ stays puts (cases_lt k (writes_at i)) (cases_lt k (writes_at i + writes_size i))
+      | inr puts ↦ ap (λ (c : List ℕ). get_or c k 0) puts.is ∙ stays puts (cases_lt k (span_of i).at) (cases_lt k (end_of (span_of i)))
     ]
   where
-    stays : (puts : Puts (writes_at i) (writes_size i) b (wrote values i b)) → (k < writes_at i) ⊎ (writes_at i ≤ k) → (k < writes_at i + writes_size i) ⊎ (writes_at i + writes_size i ≤ k)
-        → get_or (put (writes_at i) puts.new b) k 0 ≡ get_or b k 0
-    stays puts (inl before) high = get_or-put_before (writes_at i) puts.new b k 0 (omega (arith, puts.long)) before
-    stays puts (inr above) (inl below) = absurd (false≢true (sym not_it ∙ and_from (nat_le (writes_at i) k) (nat_lt k (writes_at i + writes_size i)) (le-leb (writes_at i) k above) (lt-ltb k (writes_at i + writes_size i) below)))
-    stays puts (inr above) (inr behind) = get_or-put_after (writes_at i) puts.new b k 0 (omega (arith, puts.long)) (omega (arith, puts.long))
+    stays : (puts : Puts (span_of i) b (wrote values i b)) → (k < (span_of i).at) ⊎ ((span_of i).at ≤ k) → (k < end_of (span_of i)) ⊎ (end_of (span_of i) ≤ k)
+        → get_or (put (span_of i).at puts.new b) k 0 ≡ get_or b k 0
+    stays puts (inl before) high = get_or-put_before (span_of i).at puts.new b k 0 (omega (arith, puts.long)) before
+    stays puts (inr above) (inl below) = absurd (false≢true (sym not_it ∙ and_from (nat_le (span_of i).at k) (nat_lt k (end_of (span_of i))) (le-leb (span_of i).at k above) (lt-ltb k (end_of (span_of i)) below)))
+    stays puts (inr above) (inr behind) = get_or-put_after (span_of i).at puts.new b k 0 (omega (arith, puts.long)) (omega (arith, puts.long))
 
 -- instructions keep the bytes' number
-pub length-applied : (values : List VarValue) (instrs : List Instr) (b : List ℕ) (n : ℕ) → AllByRecursion (λ i. writes_at i + writes_size i ≤ n) instrs → n ≤ length b
+pub length-applied : (values : List VarValue) (instrs : List Instr) (b : List ℕ) (n : ℕ) → AllByRecursion (λ i. end_of (span_of i) ≤ n) instrs → n ≤ length b
     → length (applied values instrs b) ≡ length b
 length-applied values [] b n places room = refl
 length-applied values (i ∷ rest) b n places room =
-    let here : writes_at i + writes_size i ≤ length b = omega (arith, places.0) in
+    let here : end_of (span_of i) ≤ length b = omega (arith, places.0) in
     length-applied values rest (wrote values i b) n places.1 (omega (arith, length-wrote values i b here)) ∙ length-wrote values i b here
 
 -- a byte that no instruction writes stays
-pub get_or-applied : (values : List VarValue) (instrs : List Instr) (b : List ℕ) (n k : ℕ) → AllByRecursion (λ i. writes_at i + writes_size i ≤ n) instrs → n ≤ length b
+pub get_or-applied : (values : List VarValue) (instrs : List Instr) (b : List ℕ) (n k : ℕ) → AllByRecursion (λ i. end_of (span_of i) ≤ n) instrs → n ≤ length b
     → AllByRecursion (λ i. writes_byte i k ≡ false) instrs → get_or (applied values instrs b) k 0 ≡ get_or b k 0
 get_or-applied values [] b n k places room none = refl
 get_or-applied values (i ∷ rest) b n k places room none =
-    let here : writes_at i + writes_size i ≤ length b = omega (arith, places.0) in
+    let here : end_of (span_of i) ≤ length b = omega (arith, places.0) in
     get_or-applied values rest (wrote values i b) n k places.1 (omega (arith, length-wrote values i b here)) none.1 ∙ get_or-wrote values i b k here none.0
 
 pub applied-append : (values : List VarValue) (xs ys : List Instr) (b : List ℕ) → applied values (xs ++ ys) b ≡ applied values ys (applied values xs b)
 applied-append values [] ys b = refl
 applied-append values (x ∷ xs) ys b = applied-append values xs ys (wrote values x b)
 
--- bytes in which the header that an instruction names has one first byte and one protocol
+-- bytes in which the header that a fix names has one first byte and one protocol
+abbrev pub SameKind : Fix → List ℕ → List ℕ → Type 0
+SameKind fix b c = (get_or b (header_of fix) 0 ≡ get_or c (header_of fix) 0) × (get_or b (header_of fix + 9) 0 ≡ get_or c (header_of fix + 9) 0)
+
+-- the same of the header that an instruction names
 abbrev pub SameHeader : Instr → List ℕ → List ℕ → Type 0
-SameHeader i b c = IfSome (header_place i) (λ at. (get_or b at 0 ≡ get_or c at 0) × (get_or b (at + 9) 0 ≡ get_or c (at + 9) 0))
+SameHeader i b c = IfSome (fix_of i) (λ fix. SameKind fix b c)
 
 -- what an IPv4 header at a place has
 pub record HasHeader (b : List ℕ) (limit at : ℕ) : Type 0 where
@@ -120,34 +136,45 @@ has_ipv4-tells b limit at has =
     let front = and_parts (nat_le (at + 20) limit && (get_or b at 0 / 16 == 4)) (nat_le 20 (header_length b at)) cut.0 in
     record { long = leb-true 20 (header_length b at) front.1; within = leb-true (at + header_length b at) limit cut.1 }
 
--- a fix of an IPv4 header finds it
-pub finds_ipv4 : (b : List ℕ) (limit at : ℕ) → misses_header b limit (FixIpv4 at) ≡ false → HasHeader b limit at
-finds_ipv4 b limit at found = has_ipv4-tells b limit at (not-false (has_ipv4 b limit at) found)
-
 -- a fix of a segment finds it, and the header in front of it
-pub finds_l4 : (b : List ℕ) (limit ip header : ℕ) (kind : L4Kind) → misses_header b limit (FixL4 ip header kind) ≡ false
+finds_segment : (b : List ℕ) (limit ip header : ℕ) (kind : L4Kind) → finds_header b limit (Segment ip header kind) ≡ true
     → HasHeader b limit ip × HasSegment b limit ip header kind
-finds_l4 b limit ip header kind found =
+finds_segment b limit ip header kind found =
     let same = header == header_length b ip in
     let protocol = get_or b (ip + 9) 0 == protocol_of kind in
     let fits = nat_le (ip + header + least_segment kind) limit in
-    let cut = and_parts (has_ipv4 b limit ip && same && protocol) fits (not-false (has_ipv4 b limit ip && same && protocol && fits) found) in
+    let cut = and_parts (has_ipv4 b limit ip && same && protocol) fits found in
     let front = and_parts (has_ipv4 b limit ip) same (and_parts (has_ipv4 b limit ip && same) protocol cut.0).0 in
     let ipv4 = has_ipv4-tells b limit ip front.0 in
     let is = eqb-true header (header_length b ip) front.1 in
     (ipv4, record { long = omega (arith, ipv4.long); within = leb-true (ip + header + least_segment kind) limit cut.1 })
 
+-- the header that a fix finds has 20 bytes within the room
+pub finds_header-long : (fix : Fix) (b : List ℕ) (limit : ℕ) → finds_header b limit fix ≡ true → header_of fix + 20 ≤ limit
+finds_header-long (Header at) b limit found = let has = has_ipv4-tells b limit at found in omega (arith, has.long, has.within)
+finds_header-long (Segment ip header kind) b limit found = let has = (finds_segment b limit ip header kind found).0 in omega (arith, has.long, has.within)
+
+-- a fix that finds its header writes within the room
+field_of-within : (fix : Fix) (b : List ℕ) (limit : ℕ) → finds_header b limit fix ≡ true → end_of (field_of fix) ≤ limit
+field_of-within (Header at) b limit found = let has = has_ipv4-tells b limit at found in omega (arith, has.long, has.within)
+field_of-within (Segment ip header kind) b limit found =
+    let has = finds_segment b limit ip header kind found in omega (arith, sum_place-within kind, has.1.within)
+
+finds_header-same : (fix : Fix) (b c : List ℕ) (limit : ℕ) → SameKind fix b c → finds_header b limit fix ≡ finds_header c limit fix
+finds_header-same (Header at) b c limit same =
+    ap (λ (x : ℕ). nat_le (at + 20) limit && (x / 16 == 4) && nat_le 20 (x % 16 * 4) && nat_le (at + x % 16 * 4) limit) same.0
+finds_header-same (Segment ip header kind) b c limit same =
+    let fits = nat_le (ip + header + least_segment kind) limit in
+    ap (λ (x : ℕ). nat_le (ip + 20) limit && (x / 16 == 4) && nat_le 20 (x % 16 * 4) && nat_le (ip + x % 16 * 4) limit && (header == x % 16 * 4) && (get_or b (ip + 9) 0 == protocol_of kind) && fits) same.0
+    ∙ ap (λ (y : ℕ). has_ipv4 c limit ip && (header == header_length c ip) && (y == protocol_of kind) && fits) same.1
+
 -- an instruction finds its header wherever those bytes are the same
 pub misses_header-same : (i : Instr) (b c : List ℕ) (limit : ℕ) → SameHeader i b c → misses_header b limit i ≡ misses_header c limit i
-misses_header-same (Write from at add big) b c limit same = refl
-misses_header-same (WriteMask from at cast mask shift add big) b c limit same = refl
-misses_header-same (FixIpv4 at) b c limit same =
-    ap (λ (x : ℕ). not (nat_le (at + 20) limit && (x / 16 == 4) && nat_le 20 (x % 16 * 4) && nat_le (at + x % 16 * 4) limit)) same.0
-misses_header-same (FixL4 ip header kind) b c limit same =
-    let fits = nat_le (ip + header + least_segment kind) limit in
-    ap (λ (x : ℕ). not (nat_le (ip + 20) limit && (x / 16 == 4) && nat_le 20 (x % 16 * 4) && nat_le (ip + x % 16 * 4) limit && (header == x % 16 * 4) && (get_or b (ip + 9) 0 == protocol_of kind) && fits)) same.0
-    ∙ ap (λ (y : ℕ). not (has_ipv4 c limit ip && (header == header_length c ip) && (y == protocol_of kind) && fits)) same.1
-misses_header-same (Trim from) b c limit same = refl
+misses_header-same i b c limit = by_fix (fix_of i)
+  where
+    by_fix : (fix : Option Fix) → IfSome fix (λ it. SameKind it b c) → option_map_or (λ it. not (finds_header b limit it)) fix false ≡ option_map_or (λ it. not (finds_header c limit it)) fix false
+    by_fix None same = refl
+    by_fix (Some fix) same = ap not (finds_header-same fix b c limit same)
 
 more_room : (n limit wide : ℕ) → limit ≤ wide → nat_le n limit ≡ true → nat_le n wide ≡ true
 more_room n limit wide more within = le-leb n wide (omega (arith, leb-true n limit within))
@@ -163,61 +190,71 @@ has_ipv4-wider b limit wide at more has =
     (and_from (nat_le (at + 20) wide && version) long (and_from (nat_le (at + 20) wide) version (more_room (at + 20) limit wide more front.0) front.1) middle.1)
     (more_room (at + header_length b at) limit wide more cut.1)
 
--- and within every wider room
-pub misses_header-wider : (i : Instr) (b : List ℕ) (limit wide : ℕ) → limit ≤ wide → misses_header b limit i ≡ false → misses_header b wide i ≡ false
-misses_header-wider (Write from at add big) b limit wide more found = refl
-misses_header-wider (WriteMask from at cast mask shift add big) b limit wide more found = refl
-misses_header-wider (FixIpv4 at) b limit wide more found =
-    not_from_true (has_ipv4 b wide at) (has_ipv4-wider b limit wide at more (not-false (has_ipv4 b limit at) found))
-misses_header-wider (FixL4 ip header kind) b limit wide more found =
+finds_header-wider : (fix : Fix) (b : List ℕ) (limit wide : ℕ) → limit ≤ wide → finds_header b limit fix ≡ true → finds_header b wide fix ≡ true
+finds_header-wider (Header at) b limit wide more found = has_ipv4-wider b limit wide at more found
+finds_header-wider (Segment ip header kind) b limit wide more found =
     let same = header == header_length b ip in
     let protocol = get_or b (ip + 9) 0 == protocol_of kind in
     let near = nat_le (ip + header + least_segment kind) limit in
     let far = nat_le (ip + header + least_segment kind) wide in
-    let cut = and_parts (has_ipv4 b limit ip && same && protocol) near (not-false (has_ipv4 b limit ip && same && protocol && near) found) in
+    let cut = and_parts (has_ipv4 b limit ip && same && protocol) near found in
     let middle = and_parts (has_ipv4 b limit ip && same) protocol cut.0 in
     let front = and_parts (has_ipv4 b limit ip) same middle.0 in
-    not_from_true (has_ipv4 b wide ip && same && protocol && far)
-    (and_from (has_ipv4 b wide ip && same && protocol) far
+    and_from (has_ipv4 b wide ip && same && protocol) far
     (and_from (has_ipv4 b wide ip && same) protocol (and_from (has_ipv4 b wide ip) same (has_ipv4-wider b limit wide ip more front.0) front.1) middle.1)
-    (more_room (ip + header + least_segment kind) limit wide more cut.1))
-misses_header-wider (Trim from) b limit wide more found = refl
+    (more_room (ip + header + least_segment kind) limit wide more cut.1)
+
+-- and within every wider room
+pub misses_header-wider : (i : Instr) (b : List ℕ) (limit wide : ℕ) → limit ≤ wide → misses_header b limit i ≡ false → misses_header b wide i ≡ false
+misses_header-wider i b limit wide more = by_fix (fix_of i)
+  where
+    by_fix : (fix : Option Fix) → option_map_or (λ it. not (finds_header b limit it)) fix false ≡ false → option_map_or (λ it. not (finds_header b wide it)) fix false ≡ false
+    by_fix None found = refl
+    by_fix (Some fix) found = not_from_true (finds_header b wide fix) (finds_header-wider fix b limit wide more (not-false (finds_header b limit fix) found))
 
 -- a write within the room stays within every wider one
 pub writes_past-wider : (i : Instr) (limit wide : ℕ) → limit ≤ wide → writes_past limit i ≡ false → writes_past wide i ≡ false
-writes_past-wider (Write from at add big) limit wide more within = le-ltb wide (at + from.size) (omega (arith, ltb-false limit (at + from.size) within))
-writes_past-wider (WriteMask from at cast mask shift add big) limit wide more within = le-ltb wide (at + cast) (omega (arith, ltb-false limit (at + cast) within))
-writes_past-wider (FixIpv4 at) limit wide more within = refl
-writes_past-wider (FixL4 ip header kind) limit wide more within = refl
-writes_past-wider (Trim from) limit wide more within = refl
+writes_past-wider i limit wide more = by_write (write_of i)
+  where
+    by_write : (write : Option Span) → option_map_or (λ span. nat_lt limit (end_of span)) write false ≡ false → option_map_or (λ span. nat_lt wide (end_of span)) write false ≡ false
+    by_write None within = refl
+    by_write (Some span) within = le-ltb wide (end_of span) (omega (arith, ltb-false limit (end_of span) within))
 
 -- an instruction that breaks no rule writes within the room
-pub place-within : (i : Instr) (b : List ℕ) (limit : ℕ) → writes_past limit i ≡ false → misses_header b limit i ≡ false → writes_at i + writes_size i ≤ limit
-place-within (Write from at add big) b limit within found = ltb-false limit (at + from.size) within
-place-within (WriteMask from at cast mask shift add big) b limit within found = ltb-false limit (at + cast) within
-place-within (FixIpv4 at) b limit within found = let has = finds_ipv4 b limit at found in omega (arith, has.long, has.within)
-place-within (FixL4 ip header kind) b limit within found =
-    let has = finds_l4 b limit ip header kind found in omega (arith, sum_place-within kind, has.1.within)
-place-within (Trim from) b limit within found = omega arith
+pub place-within : (i : Instr) (b : List ℕ) (limit : ℕ) → writes_past limit i ≡ false → misses_header b limit i ≡ false → end_of (span_of i) ≤ limit
+place-within i b limit = by_effect (write_of i) (fix_of i)
+  where
+    by_effect : (write : Option Span) (fix : Option Fix) → option_map_or (λ span. nat_lt limit (end_of span)) write false ≡ false
+        → option_map_or (λ it. not (finds_header b limit it)) fix false ≡ false → end_of (changed write fix) ≤ limit
+    by_effect (Some span) fix within found = ltb-false limit (end_of span) within
+    by_effect None (Some fix) within found = field_of-within fix b limit (not-false (finds_header b limit fix) found)
+    by_effect None None within found = omega arith
 
 -- a segment verifies after its fix, whether it fits or not
 segment-verifies : (kind : L4Kind) (ip header : ℕ) (b : List ℕ) (t : Bool) → 20 ≤ header → t ≡ segment_fits kind ip header b
-    → HeaderVerifies (FixL4 ip header kind) (cond t (summed (written_sum kind) (segment_at kind ip header) (ip + header + sum_place kind) b) b)
+    → FixVerifies (Segment ip header kind) (cond t (summed (written_sum kind) (segment_at kind ip header) (ip + header + sum_place kind) b) b)
 segment-verifies kind ip header b true long fits =
     λ _. summed-verifies (written_sum kind) (segment_at kind ip header) (ip + header + sum_place kind) b (Completes-written_sum kind)
     (HoldsField-segment_at kind ip header b long (sym fits))
 segment-verifies kind ip header b false long fits = λ now. absurd (false≢true (fits ∙ now))
 
 -- right after its fix a header verifies
+fixed-verifies : (fix : Fix) (b : List ℕ) → finds_header b (length b) fix ≡ true → FixVerifies fix (fixed fix b)
+fixed-verifies (Header at) b found =
+    let has = has_ipv4-tells b (length b) at found in
+    summed-verifies (λ n. n) (header_at at) (at + 10) b Completes-plain (HoldsField-header_at at b has.long has.within)
+fixed-verifies (Segment ip header kind) b found =
+    segment-verifies kind ip header b (segment_fits kind ip header b) (finds_segment b (length b) ip header kind found).1.long refl
+
+maybe_fixed-verifies : (fix : Option Fix) (b : List ℕ) → option_map_or (λ it. not (finds_header b (length b) it)) fix false ≡ false
+    → IfSome fix (λ it. FixVerifies it (option_map_or (λ one. fixed one b) fix b))
+maybe_fixed-verifies None b found = tt
+maybe_fixed-verifies (Some fix) b found = fixed-verifies fix b (not-false (finds_header b (length b) fix) found)
+
 pub wrote-verifies : (values : List VarValue) (i : Instr) (b : List ℕ) → misses_header b (length b) i ≡ false → HeaderVerifies i (wrote values i b)
 wrote-verifies values (Write from at add big) b found = tt
 wrote-verifies values (WriteMask from at cast mask shift add big) b found = tt
-wrote-verifies values (FixIpv4 at) b found =
-    let has = finds_ipv4 b (length b) at found in
-    summed-verifies (λ n. n) (header_at at) (at + 10) b Completes-plain (HoldsField-header_at at b has.long has.within)
-wrote-verifies values (FixL4 ip header kind) b found =
-    segment-verifies kind ip header b (segment_fits kind ip header b) (finds_l4 b (length b) ip header kind found).1.long refl
-wrote-verifies values (Trim from) b found = tt
+wrote-verifies values i b found = maybe_fixed-verifies (fix_of i) b found
 
 header_at-same : (at : ℕ) (b c : List ℕ) → length b ≡ length c → get_or b at 0 ≡ get_or c at 0
     → ((k : ℕ) → IsWithin at (header_length c at) k → get_or b k 0 ≡ get_or c k 0) → header_at at b ≡ header_at at c
@@ -257,19 +294,25 @@ segment_at-same kind ip header b c long len agree =
     (slice_range-same (ip + header) (ip + header + segment_length kind ip header c) b c long (λ k low high. agree k (Covers-segment kind ip header c k (low, high))))
 
 -- what verifies in some bytes verifies in others that have the same covered bytes
-pub HeaderVerifies-same : (i : Instr) (b c : List ℕ) → length b ≡ length c → SameHeader i b c → ((k : ℕ) → Covers i c k → get_or b k 0 ≡ get_or c k 0)
-    → HeaderVerifies i b → HeaderVerifies i c
-HeaderVerifies-same (Write from at add big) b c long same agree verifies = tt
-HeaderVerifies-same (WriteMask from at cast mask shift add big) b c long same agree verifies = tt
-HeaderVerifies-same (Trim from) b c long same agree verifies = tt
-HeaderVerifies-same (FixIpv4 at) b c long same agree verifies = rw (sym (header_at-same at b c long same.0 agree)) verifies
-HeaderVerifies-same (FixL4 ip header kind) b c long same agree verifies = λ fits.
+FixVerifies-same : (fix : Fix) (b c : List ℕ) → length b ≡ length c → SameKind fix b c → ((k : ℕ) → CoversByte fix c k → get_or b k 0 ≡ get_or c k 0)
+    → FixVerifies fix b → FixVerifies fix c
+FixVerifies-same (Header at) b c long same agree verifies = rw (sym (header_at-same at b c long same.0 agree)) verifies
+FixVerifies-same (Segment ip header kind) b c long same agree verifies = λ fits.
     let known = segment_fits-tells kind ip header c fits in
     let len = segment_length-same kind ip header b c known.0 agree in
     let fit : segment_fits kind ip header b ≡ segment_fits kind ip header c =
     ap (λ (n : ℕ). nat_le (least_segment kind) n && nat_le (ip + header + n) (length b)) len
     ∙ ap (λ (n : ℕ). nat_le (least_segment kind) (segment_length kind ip header c) && nat_le (ip + header + segment_length kind ip header c) n) long in
     rw (sym (segment_at-same kind ip header b c long len agree)) (verifies (fit ∙ fits))
+
+pub HeaderVerifies-same : (i : Instr) (b c : List ℕ) → length b ≡ length c → SameHeader i b c → ((k : ℕ) → Covers i c k → get_or b k 0 ≡ get_or c k 0)
+    → HeaderVerifies i b → HeaderVerifies i c
+HeaderVerifies-same i b c long = by_fix (fix_of i)
+  where
+    by_fix : (fix : Option Fix) → IfSome fix (λ it. SameKind it b c) → ((k : ℕ) → IsSomeAnd fix (λ it. CoversByte it c k) → get_or b k 0 ≡ get_or c k 0)
+        → IfSome fix (λ it. FixVerifies it b) → IfSome fix (λ it. FixVerifies it c)
+    by_fix None same agree verifies = tt
+    by_fix (Some fix) same agree verifies = FixVerifies-same fix b c long same agree verifies
 
 -- a write to a part of some bytes
 pub put_mid-put : (at k : ℕ) (b new : List ℕ) → k ≡ length new → put_mid at k b new ≡ put at new b

@@ -1,33 +1,32 @@
 -- Lists of instructions: each finds its header when its turn comes, and what was fixed verifies at the end.
-use Rattle.std.proofs.Common.{◌≡◌, ℕ, ◌+◌, ◌-◌, ◌<◌, ◌≤◌, List, [], ◌∷◌, ◌++◌, length, get_or, take, refl, sym, ap, subst, ◌∙◌, arith, cond, Bool, true, false, Option, Some, None, is_some, All}
-use Rattle.std.proofs.lemmas.Bool.{false≢true, false_from_ne_true, or_parts}
+use Rattle.std.proofs.Common.{◌≡◌, ℕ, ◌+◌, ◌-◌, ◌<◌, ◌≤◌, List, [], ◌∷◌, ◌++◌, length, get_or, take, refl, sym, ap, subst, ◌∙◌, arith, cond, Bool, true, false, not, Option, Some, None, is_some, All, IfSome}
+use Rattle.std.proofs.lemmas.Bool.{false≢true, false_from_ne_true, not-false, or_parts}
 use Rattle.std.proofs.lemmas.List.{get_or-take, length-take-le, take_more}
 use Rattle.std.proofs.lemmas.List.Elements.{recursion_from_All, All-from_recursion, All-take}
 use Rattle.std.proofs.lemmas.List.Folds.{list_any_at}
 use Rattle.std.specs.List.{AllByRecursion, list_any}
+use Rattle.std.specs.Option.{option_map_or}
 use Rattle.trex_fields.proofs.Puts.{length-put, get_or-put_before}
 use Rattle.trex_stamp.specs.declared.header.Stamp.{Stamp}
 use Rattle.trex_stamp.specs.Stamp.{stamp_bytes}
 use Rattle.trex_vars.specs.declared.value.VarValue.{VarValue}
+use Rattle.trex_vm.specs.declared.effect.Fix.{Fix}
 use Rattle.trex_vm.specs.declared.instr.Instr.{Instr}
-use Rattle.trex_vm.specs.declared.instr.Instr.TheVariants.{Write, WriteMask, FixIpv4, FixL4, Trim}
+use Rattle.trex_vm.specs.Effect.{end_of, fix_of}
+use Rattle.trex_vm.specs.Fix.{header_of}
 use Rattle.trex_vm.specs.Packet.{wrote, applied, trimmed, stamped, front, packet}
-use Rattle.trex_vm.specs.Cover.{writes_at, writes_size, writes_byte, Covers, StaysFixed, HeaderVerifies}
-use Rattle.trex_vm.specs.Rules.{writes_past, misses_header, header_place, touches, touches_shape}
+use Rattle.trex_vm.specs.Cover.{span_of, writes_byte, Covers, StaysFixed, HeaderVerifies}
+use Rattle.trex_vm.specs.Rules.{writes_past, finds_header, misses_header, touches, touches_header_of, touches_shape}
 use Rattle.trex_vm.specs.Program.{Plan, room, IsProgram, IsTemplateOf, AreValuesOf}
-use Rattle.trex_vm.proofs.Steps.{SameHeader, length-wrote, length-applied, get_or-applied, applied-append, finds_ipv4, finds_l4, misses_header-same, misses_header-wider, writes_past-wider, place-within, wrote-verifies, HeaderVerifies-same}
+use Rattle.trex_vm.proofs.Steps.{SameKind, SameHeader, length-wrote, length-applied, get_or-applied, applied-append, finds_header-long, misses_header-same, misses_header-wider, writes_past-wider, place-within, wrote-verifies, HeaderVerifies-same}
 
 -- a test that no instruction of a list passes fails at each
 pub none_pass : (p : Instr → Bool) (instrs : List Instr) → list_any p instrs ≡ false → All (λ i. p i ≡ false) instrs
 none_pass p instrs none = λ k d below. false_from_ne_true (p (get_or instrs k d)) (λ passes. false≢true (sym none ∙ list_any_at p instrs k d below passes))
 
--- no instruction of the list touches the header at a place
-abbrev pub KeepsHeader : List Instr → Option ℕ → Type 0
-KeepsHeader instrs place = All (λ i. touches i place ≡ false) instrs
-
 -- no instruction of the list touches the header that this one names
 abbrev pub KeepsShape : List Instr → Instr → Type 0
-KeepsShape instrs other = KeepsHeader instrs (header_place other)
+KeepsShape instrs other = All (λ i. touches_header_of i other ≡ false) instrs
 
 -- what a list of instructions and its bytes have: each writes and finds its header within the bytes, and none touches a header's shape
 pub record Fit (instrs : List Instr) (b : List ℕ) (limit : ℕ) : Type 0 where
@@ -37,34 +36,35 @@ pub record Fit (instrs : List Instr) (b : List ℕ) (limit : ℕ) : Type 0 where
 
 pub KeepsShape-none : (instrs : List Instr) → list_any (touches_shape instrs) instrs ≡ false → All (KeepsShape instrs) instrs
 KeepsShape-none instrs none = λ k d below. λ j e within.
-    none_pass (λ other. touches (get_or instrs j e) (header_place other)) instrs (none_pass (touches_shape instrs) instrs none j e within) k d below
+    none_pass (touches_header_of (get_or instrs j e)) instrs (none_pass (touches_shape instrs) instrs none j e within) k d below
 
 -- one more instruction
 pub applied-more : (values : List VarValue) (instrs : List Instr) (b : List ℕ) (i : ℕ) (d : Instr) → i < length instrs
     → applied values (take (i + 1) instrs) b ≡ wrote values (get_or instrs i d) (applied values (take i instrs) b)
 applied-more values instrs b i d below = ap (λ (xs : List Instr). applied values xs b) (take_more instrs i d below) ∙ applied-append values (take i instrs) (get_or instrs i d ∷ []) b
 
-All-places : (instrs : List Instr) (b : List ℕ) (limit : ℕ) → Fit instrs b limit → All (λ i. writes_at i + writes_size i ≤ limit) instrs
+All-places : (instrs : List Instr) (b : List ℕ) (limit : ℕ) → Fit instrs b limit → All (λ i. end_of (span_of i) ≤ limit) instrs
 All-places instrs b limit fit = λ k d below. place-within (get_or instrs k d) b limit (fit.places k d below) (fit.headers k d below)
 
 -- instructions that don't touch a header keep its first byte and its protocol
-keeps_header : (values : List VarValue) (instrs : List Instr) (b : List ℕ) (n at : ℕ) → All (λ i. writes_at i + writes_size i ≤ n) instrs → n ≤ length b → KeepsHeader instrs (Some at)
-    → (get_or b at 0 ≡ get_or (applied values instrs b) at 0) × (get_or b (at + 9) 0 ≡ get_or (applied values instrs b) (at + 9) 0)
-keeps_header values instrs b n at places wide keeps =
-    let within = recursion_from_All (λ i. writes_at i + writes_size i ≤ n) instrs places in
+keeps_header : (values : List VarValue) (instrs : List Instr) (b : List ℕ) (n : ℕ) (fix : Fix) → All (λ i. end_of (span_of i) ≤ n) instrs → n ≤ length b
+    → All (λ i. touches i fix ≡ false) instrs → SameKind fix b (applied values instrs b)
+keeps_header values instrs b n fix places wide keeps =
+    let at = header_of fix in
+    let within = recursion_from_All (λ i. end_of (span_of i) ≤ n) instrs places in
     let both : (k : ℕ) (d : Instr) → k < length instrs → (writes_byte (get_or instrs k d) at ≡ false) × (writes_byte (get_or instrs k d) (at + 9) ≡ false) =
     λ k d below. or_parts (writes_byte (get_or instrs k d) at) (writes_byte (get_or instrs k d) (at + 9)) (keeps k d below) in (
       sym (get_or-applied values instrs b n at within wide (recursion_from_All (λ i. writes_byte i at ≡ false) instrs (λ k d below. (both k d below).0))),
       sym (get_or-applied values instrs b n (at + 9) within wide (recursion_from_All (λ i. writes_byte i (at + 9) ≡ false) instrs (λ k d below. (both k d below).1))),
     )
 
-SameHeader-applied : (values : List VarValue) (instrs : List Instr) (i : Instr) (b : List ℕ) (n : ℕ) → All (λ j. writes_at j + writes_size j ≤ n) instrs → n ≤ length b → KeepsShape instrs i
+SameHeader-applied : (values : List VarValue) (instrs : List Instr) (i : Instr) (b : List ℕ) (n : ℕ) → All (λ j. end_of (span_of j) ≤ n) instrs → n ≤ length b → KeepsShape instrs i
     → SameHeader i b (applied values instrs b)
-SameHeader-applied values instrs (Write from at add big) b n places wide keeps = tt
-SameHeader-applied values instrs (WriteMask from at cast mask shift add big) b n places wide keeps = tt
-SameHeader-applied values instrs (FixIpv4 at) b n places wide keeps = keeps_header values instrs b n at places wide keeps
-SameHeader-applied values instrs (FixL4 ip header kind) b n places wide keeps = keeps_header values instrs b n ip places wide keeps
-SameHeader-applied values instrs (Trim from) b n places wide keeps = tt
+SameHeader-applied values instrs i b n places wide = by_fix (fix_of i)
+  where
+    by_fix : (fix : Option Fix) → All (λ j. option_map_or (touches j) fix false ≡ false) instrs → IfSome fix (λ it. SameKind it b (applied values instrs b))
+    by_fix None keeps = tt
+    by_fix (Some fix) keeps = keeps_header values instrs b n fix places wide keeps
 
 -- each instruction writes and finds its header when its turn comes
 pub Fit-in_turn : (values : List VarValue) (instrs : List Instr) (b : List ℕ) (i : ℕ) (d : Instr) → Fit instrs b (length b) → i < length instrs
@@ -73,9 +73,9 @@ pub Fit-in_turn : (values : List VarValue) (instrs : List Instr) (b : List ℕ) 
 Fit-in_turn values instrs b i d fit below =
     let c = applied values (take i instrs) b in
     let it = get_or instrs i d in
-    let places = All-take (λ j. writes_at j + writes_size j ≤ length b) i instrs (All-places instrs b (length b) fit) in
-    let long : length c ≡ length b = length-applied values (take i instrs) b (length b) (recursion_from_All (λ j. writes_at j + writes_size j ≤ length b) (take i instrs) places) (omega arith) in
-    let kept = All-take (λ j. touches j (header_place it) ≡ false) i instrs (fit.shape i d below) in
+    let places = All-take (λ j. end_of (span_of j) ≤ length b) i instrs (All-places instrs b (length b) fit) in
+    let long : length c ≡ length b = length-applied values (take i instrs) b (length b) (recursion_from_All (λ j. end_of (span_of j) ≤ length b) (take i instrs) places) (omega arith) in
+    let kept = All-take (λ j. touches_header_of j it ≡ false) i instrs (fit.shape i d below) in
     let same = SameHeader-applied values (take i instrs) it b (length b) places (omega arith) kept in (
       writes_past-wider it (length b) (length c) (omega arith) (fit.places i d below),
       misses_header-wider it c (length b) (length c) (omega arith) (sym (misses_header-same it b c (length b) same) ∙ fit.headers i d below),
@@ -144,15 +144,13 @@ get_or-front p values stamp template k runs below =
 
 SameHeader-front : (i : Instr) (p : Plan) (values : List VarValue) (stamp : Option Stamp) (template : List ℕ) → Runs p values stamp template
     → misses_header template (room p) i ≡ false → SameHeader i template (front p.instrs values stamp template)
-SameHeader-front (Write from at add big) p values stamp template runs found = tt
-SameHeader-front (WriteMask from at cast mask shift add big) p values stamp template runs found = tt
-SameHeader-front (FixIpv4 at) p values stamp template runs found =
-    let has = finds_ipv4 template (room p) at found in
-    (get_or-front p values stamp template at runs (omega (arith, has.long, has.within)), get_or-front p values stamp template (at + 9) runs (omega (arith, has.long, has.within)))
-SameHeader-front (FixL4 ip header kind) p values stamp template runs found =
-    let has = (finds_l4 template (room p) ip header kind found).0 in
-    (get_or-front p values stamp template ip runs (omega (arith, has.long, has.within)), get_or-front p values stamp template (ip + 9) runs (omega (arith, has.long, has.within)))
-SameHeader-front (Trim from) p values stamp template runs found = tt
+SameHeader-front i p values stamp template runs = by_fix (fix_of i)
+  where
+    by_fix : (fix : Option Fix) → option_map_or (λ it. not (finds_header template (room p) it)) fix false ≡ false → IfSome fix (λ it. SameKind it template (front p.instrs values stamp template))
+    by_fix None found = tt
+    by_fix (Some fix) found =
+        let long = finds_header-long fix template (room p) (not-false (finds_header template (room p) fix) found) in
+        (get_or-front p values stamp template (header_of fix) runs (omega (arith, long)), get_or-front p values stamp template (header_of fix + 9) runs (omega (arith, long)))
 
 pub length-front : (p : Plan) (values : List VarValue) (stamp : Option Stamp) (template : List ℕ) → Runs p values stamp template
     → length (front p.instrs values stamp template) ≡ cut p values template
@@ -196,9 +194,9 @@ applied-verifies : (values : List VarValue) (before : List Instr) (fix : Instr) 
     → StaysFixed fix later (applied values (before ++ fix ∷ later) b) → HeaderVerifies fix (applied values (before ++ fix ∷ later) b)
 applied-verifies values before fix later b fit stays =
     let n = length b in
-    let Fits : Instr → Type 0 = λ i. writes_at i + writes_size i ≤ n in
+    let Fits : Instr → Type 0 = λ i. end_of (span_of i) ≤ n in
     let places = All-parts Fits before fix later (All-places (before ++ fix ∷ later) b n fit) in
-    let kept = All-parts (λ i. touches i (header_place fix) ≡ false) before fix later (All-parts (KeepsShape (before ++ fix ∷ later)) before fix later fit.shape).1 in
+    let kept = All-parts (λ i. touches_header_of i fix ≡ false) before fix later (All-parts (KeepsShape (before ++ fix ∷ later)) before fix later fit.shape).1 in
     let start = applied values before b in
     let start_long : length start ≡ n = length-applied values before b n (recursion_from_All Fits before places.0) (omega arith) in
     let same_start = SameHeader-applied values before fix b n places.0 (omega arith) kept.0 in
@@ -232,6 +230,6 @@ pub length-packet : (p : Plan) (values : List VarValue) (stamp : Option Stamp) (
 length-packet p values stamp template runs =
     let n = cut p values template in
     let b = front p.instrs values stamp template in
-    let Fits : Instr → Type 0 = λ i. writes_at i + writes_size i ≤ n in
+    let Fits : Instr → Type 0 = λ i. end_of (span_of i) ≤ n in
     let long = length-front p values stamp template runs in
     length-applied values p.instrs b n (recursion_from_All Fits p.instrs (All-places p.instrs b n (Fit-front p values stamp template runs))) (omega arith) ∙ long

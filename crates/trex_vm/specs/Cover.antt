@@ -1,31 +1,28 @@
 -- Which bytes an instruction writes, which bytes a checksum covers, and when a fixed header verifies. Own.
-use Rattle.std.specs.Prelude.{◌≡◌, ℕ, ◌+◌, ◌<◌, ◌≤◌, ◌⊎◌, Bool, ◌&&◌, nat_le, nat_lt, List, IsTrue, IsFalse, All}
+use Rattle.std.specs.Prelude.{◌≡◌, ℕ, ◌+◌, ◌<◌, ◌≤◌, ◌⊎◌, Bool, ◌&&◌, nat_le, nat_lt, List, IsTrue, IsFalse, All, Option, Some, None, IfSome, IsSomeAnd}
 use Rattle.trex_sum.specs.Checksum.{sum_of, Verifies}
+use Rattle.trex_vm.specs.declared.effect.Fix.{Fix}
+use Rattle.trex_vm.specs.declared.effect.Fix.TheVariants.{Header, Segment}
+use Rattle.trex_vm.specs.declared.effect.Span.{Span}
 use Rattle.trex_vm.specs.declared.instr.Instr.{Instr}
-use Rattle.trex_vm.specs.declared.instr.Instr.TheVariants.{Write, WriteMask, FixIpv4, FixL4, Trim}
 use Rattle.trex_vm.specs.declared.instr.L4Kind.{L4Kind}
 use Rattle.trex_vm.specs.declared.instr.L4Kind.TheVariants.{Tcp, Udp}
-use Rattle.trex_vm.specs.Fix.{header_length, header_at, segment_length, segment_fits, segment_at, sum_place}
+use Rattle.trex_vm.specs.Effect.{end_of, write_of, fix_of}
+use Rattle.trex_vm.specs.Fix.{field_of, header_length, header_at, segment_length, segment_fits, segment_at}
 
--- the first byte that an instruction writes: a fix writes its checksum field
-abbrev pub writes_at : Instr → ℕ
-writes_at (Write from at add big) = at
-writes_at (WriteMask from at cast mask shift add big) = at
-writes_at (FixIpv4 at) = at + 10
-writes_at (FixL4 ip header kind) = ip + header + sum_place kind
-writes_at (Trim from) = 0
+-- the bytes that are changed: those of a write, or the field of a fix, or none
+abbrev pub changed : Option Span → Option Fix → Span
+changed (Some span) fix = span
+changed None (Some fix) = field_of fix
+changed None None = record { at = 0; size = 0 }
 
--- how many bytes an instruction writes
-abbrev pub writes_size : Instr → ℕ
-writes_size (Write from at add big) = from.size
-writes_size (WriteMask from at cast mask shift add big) = cast
-writes_size (FixIpv4 at) = 2
-writes_size (FixL4 ip header kind) = 2
-writes_size (Trim from) = 0
+-- the bytes that an instruction changes
+abbrev pub span_of : Instr → Span
+span_of instr = changed (write_of instr) (fix_of instr)
 
 -- the instruction writes byte k
 abbrev pub writes_byte : Instr → ℕ → Bool
-writes_byte instr k = nat_le (writes_at instr) k && nat_lt k (writes_at instr + writes_size instr)
+writes_byte instr k = nat_le (span_of instr).at k && nat_lt k (end_of (span_of instr))
 
 -- byte k is one of the `size` bytes from `at` on
 abbrev pub IsWithin : ℕ → ℕ → ℕ → Type 0
@@ -38,23 +35,25 @@ CoversSegment Udp ip header packet k =
 CoversSegment Tcp ip header packet k =
     IsWithin (ip + header) (segment_length Tcp ip header packet) k ⊎ ((k ≡ ip + 9) ⊎ (IsWithin (ip + 12) 8 k ⊎ IsWithin (ip + 2) 2 k))
 
+-- the checksum of a fix covers byte k of the packet
+abbrev pub CoversByte : Fix → List ℕ → ℕ → Type 0
+CoversByte (Header at) packet k = IsWithin at (header_length packet at) k
+CoversByte (Segment ip header kind) packet k = CoversSegment kind ip header packet k
+
 -- the checksum that the instruction fixes covers byte k of the packet
 abbrev pub Covers : Instr → List ℕ → ℕ → Type 0
-Covers (Write from at add big) packet k = ⊥
-Covers (WriteMask from at cast mask shift add big) packet k = ⊥
-Covers (FixIpv4 at) packet k = IsWithin at (header_length packet at) k
-Covers (FixL4 ip header kind) packet k = CoversSegment kind ip header packet k
-Covers (Trim from) packet k = ⊥
+Covers instr packet k = IsSomeAnd (fix_of instr) (λ fix. CoversByte fix packet k)
 
 -- no later instruction writes a byte that the fix covers
 abbrev pub StaysFixed : Instr → List Instr → List ℕ → Type 0
 StaysFixed fix later packet = (k : ℕ) → Covers fix packet k → All (λ instr. IsFalse (writes_byte instr k)) later
 
--- the header that the instruction fixed verifies: of a segment, where its length fits
-abbrev pub HeaderVerifies : Instr → List ℕ → Type 0
-HeaderVerifies (Write from at add big) packet = Unit {0}
-HeaderVerifies (WriteMask from at cast mask shift add big) packet = Unit {0}
-HeaderVerifies (FixIpv4 at) packet = Verifies (sum_of (header_at at packet))
-HeaderVerifies (FixL4 ip header kind) packet =
+-- what a fix wrote the checksum of verifies: a segment, where its length fits
+abbrev pub FixVerifies : Fix → List ℕ → Type 0
+FixVerifies (Header at) packet = Verifies (sum_of (header_at at packet))
+FixVerifies (Segment ip header kind) packet =
     IsTrue (segment_fits kind ip header packet) → Verifies (sum_of (segment_at kind ip header packet))
-HeaderVerifies (Trim from) packet = Unit {0}
+
+-- the header that the instruction fixed verifies
+abbrev pub HeaderVerifies : Instr → List ℕ → Type 0
+HeaderVerifies instr packet = IfSome (fix_of instr) (λ fix. FixVerifies fix packet)

@@ -4,6 +4,9 @@ use Rattle.std.specs.List.{slice_range}
 use Rattle.byteorder.specs.Endian.{big_bytes, big_number}
 use Rattle.trex_fields.specs.Bytes.{put}
 use Rattle.trex_sum.specs.Checksum.{sum_of, fold_of}
+use Rattle.trex_vm.specs.declared.effect.Fix.{Fix}
+use Rattle.trex_vm.specs.declared.effect.Fix.TheVariants.{Header, Segment}
+use Rattle.trex_vm.specs.declared.effect.Span.{Span}
 use Rattle.trex_vm.specs.declared.instr.L4Kind.{L4Kind}
 use Rattle.trex_vm.specs.declared.instr.L4Kind.TheVariants.{Tcp, Udp}
 
@@ -73,3 +76,18 @@ fixed_l4 kind ip header bytes =
     if segment_fits kind ip header bytes
     then summed (written_sum kind) (segment_at kind ip header) (ip + header + sum_place kind) bytes
     else bytes
+
+-- the field of the checksum that a fix writes
+abbrev pub field_of : Fix → Span
+field_of (Header at) = record { at = at + 10; size = 2 }
+field_of (Segment ip header kind) = record { at = ip + header + sum_place kind; size = 2 }
+
+-- the bytes with the checksum of a fix written
+abbrev pub fixed : Fix → List ℕ → List ℕ
+fixed (Header at) bytes = fixed_ipv4 at bytes
+fixed (Segment ip header kind) bytes = fixed_l4 kind ip header bytes
+
+-- the place of the IPv4 header that a fix names
+abbrev pub header_of : Fix → ℕ
+header_of (Header at) = at
+header_of (Segment ip header kind) = ip

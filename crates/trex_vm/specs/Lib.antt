@@ -1,3 +1,4 @@
+pub mod Effect
 pub mod Fix
 pub mod Write
 pub mod Packet

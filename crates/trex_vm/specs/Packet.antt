@@ -1,22 +1,22 @@
 -- A packet, made of its template. Own.
 use Rattle.std.specs.Prelude.{ℕ, ◌-◌, List, [], ◌∷◌, length, take, Option, Some, None}
+use Rattle.std.specs.Option.{option_map_or}
 use Rattle.trex_fields.specs.Bytes.{put}
 use Rattle.trex_stamp.specs.declared.header.Stamp.{Stamp}
 use Rattle.trex_stamp.specs.declared.header.TheConstants.{STAMP_SIZE}
 use Rattle.trex_stamp.specs.Stamp.{stamp_bytes}
 use Rattle.trex_vars.specs.declared.value.VarValue.{VarValue}
 use Rattle.trex_vm.specs.declared.instr.Instr.{Instr}
-use Rattle.trex_vm.specs.declared.instr.Instr.TheVariants.{Write, WriteMask, FixIpv4, FixL4, Trim}
-use Rattle.trex_vm.specs.Fix.{fixed_ipv4, fixed_l4}
+use Rattle.trex_vm.specs.declared.instr.Instr.TheVariants.{Write, WriteMask}
+use Rattle.trex_vm.specs.Effect.{fix_of, trim_of}
+use Rattle.trex_vm.specs.Fix.{fixed}
 use Rattle.trex_vm.specs.Write.{number_in, sum_in, shifted, written, written_mask}
 
 -- the bytes after one instruction: a trim has acted before
 abbrev pub wrote : List VarValue → Instr → List ℕ → List ℕ
 wrote values (Write from at add big) bytes = written big from.size at (sum_in values from add) bytes
 wrote values (WriteMask from at cast mask shift add big) bytes = written_mask big cast at mask (shifted shift (sum_in values from add)) bytes
-wrote values (FixIpv4 at) bytes = fixed_ipv4 at bytes
-wrote values (FixL4 ip header kind) bytes = fixed_l4 kind ip header bytes
-wrote values (Trim from) bytes = bytes
+wrote values instr bytes = option_map_or (λ fix. fixed fix bytes) (fix_of instr) bytes
 
 -- the bytes after the instructions, one after another
 abbrev pub applied : List VarValue → List Instr → List ℕ → List ℕ
@@ -26,11 +26,7 @@ applied values (instr ∷ rest) bytes = applied values rest (wrote values instr 
 -- the packet's length: the number of the trim, or the whole template's length where there is none
 abbrev pub trimmed : List VarValue → List Instr → ℕ → ℕ
 trimmed values [] whole = whole
-trimmed values (Trim from ∷ rest) whole = number_in values from
-trimmed values (Write from at add big ∷ rest) whole = trimmed values rest whole
-trimmed values (WriteMask from at cast mask shift add big ∷ rest) whole = trimmed values rest whole
-trimmed values (FixIpv4 at ∷ rest) whole = trimmed values rest whole
-trimmed values (FixL4 ip header kind ∷ rest) whole = trimmed values rest whole
+trimmed values (instr ∷ rest) whole = option_map_or (number_in values) (trim_of instr) (trimmed values rest whole)
 
 -- the bytes with the latency header, where there is one, in place of the last bytes
 abbrev pub stamped : Option Stamp → List ℕ → List ℕ

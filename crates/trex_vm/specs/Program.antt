@@ -1,5 +1,5 @@
 -- Programs, and for which templates and values they are meant. Own.
-use Rattle.std.specs.Prelude.{◌≡◌, ℕ, ◌<◌, ◌≤◌, negsuc, pos, ◌≤ℤ◌, Bool, false, IsTrue, List, length, Option, Some, None, IfSome, All}
+use Rattle.std.specs.Prelude.{◌≡◌, ℕ, ◌<◌, ◌≤◌, negsuc, pos, ◌≤ℤ◌, Bool, false, IsTrue, List, length, None, IfSome, All}
 use Rattle.std.specs.List.{list_any, count_by}
 use Rattle.trex_layers.specs.declared.sizes.TheConstants.{LONGEST_PACKET, SHORTEST_PACKET}
 use Rattle.trex_fields.specs.Bytes.{IsSize}
@@ -7,9 +7,9 @@ use Rattle.trex_stamp.specs.declared.header.TheConstants.{SHORTEST_STAMPED}
 use Rattle.trex_vars.specs.Variable.{Variable}
 use Rattle.trex_vars.specs.Check.{fault_of}
 use Rattle.trex_vars.specs.declared.value.VarValue.{VarValue}
-use Rattle.trex_vm.specs.declared.instr.Operand.{Operand}
 use Rattle.trex_vm.specs.declared.instr.Instr.{Instr}
-use Rattle.trex_vm.specs.declared.instr.Instr.TheVariants.{Write, WriteMask, FixIpv4, FixL4, Trim}
+use Rattle.trex_vm.specs.declared.instr.Instr.TheVariants.{Write, WriteMask}
+use Rattle.trex_vm.specs.Effect.{operand_of}
 use Rattle.trex_vm.specs.Packet.{trimmed}
 use Rattle.trex_vm.specs.Rules.{least_length, room_of, is_trim, writes_past, misses_header, touches_shape}
 
@@ -29,14 +29,6 @@ plan_of instrs vars template stamps =
 abbrev pub room : Plan → ℕ
 room p = room_of p.least p.stamps
 
--- the operand that an instruction takes
-abbrev pub operand_of : Instr → Option Operand
-operand_of (Write from at add big) = Some from
-operand_of (WriteMask from at cast mask shift add big) = Some from
-operand_of (FixIpv4 at) = None
-operand_of (FixL4 ip header kind) = None
-operand_of (Trim from) = Some from
-
 -- the operand's variable is one of so many
 abbrev pub TakesFrom : ℕ → Instr → Type 0
 TakesFrom count instr = IfSome (operand_of instr) (λ from. from.var < count)
@@ -45,9 +37,7 @@ TakesFrom count instr = IfSome (operand_of instr) (λ from. from.var < count)
 abbrev pub IsFormed : Instr → Type 0
 IsFormed (Write from at add big) = IsSize from.size
 IsFormed (WriteMask from at cast mask shift add big) = IsSize cast × (negsuc 62 ≤ℤ shift) × (shift ≤ℤ pos 63)
-IsFormed (FixIpv4 at) = Unit {0}
-IsFormed (FixL4 ip header kind) = Unit {0}
-IsFormed (Trim from) = Unit {0}
+IsFormed _ = Unit {0}
 
 -- each operand's variable is one of the variables, and each instruction is formed
 pub record AreOperandsOf (vars : List Variable) (instrs : List Instr) : Type 0 where

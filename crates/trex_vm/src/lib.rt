@@ -1,6 +1,7 @@
 // The field engine: programs that write variables, checksums and latency headers into packets.
 #![tactic(auto)]
 
+mod effect;
 mod fix;
 mod instr;
 mod laws;

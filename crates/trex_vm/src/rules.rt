@@ -1,15 +1,16 @@
 // Whether the instructions of a stream are accepted for its variables and its template: one test a rule.
 
-ghost use Rattle.std.specs.Prelude.{◌≡◌, ◌+◌, ◌^◌, ◌<◌, nat_lt, nat_le, count_by, All, length, map, slice_index};
+ghost use Rattle.std.specs.Prelude.{◌≡◌, ◌+◌, ◌<◌, nat_le, count_by, All, length, map, slice_index};
 ghost use Rattle.std.specs.List.{list_any};
 ghost use Rattle.trex_vars.specs.Variable.{variable_of};
 ghost use Rattle.trex_vars.specs.Bounds.{least, greatest};
 ghost use Rattle.trex_vm.specs.Write.{number_in};
-ghost use Rattle.trex_vm.specs.Cover.{writes_at, writes_size, writes_byte};
-ghost use Rattle.trex_vm.specs.Rules.{least_length, room_of, is_trim, trim_wrong, writes_past, has_ipv4, misses_header, header_place, touches, touches_shape, accepts};
+ghost use Rattle.trex_vm.specs.Cover.{writes_byte};
+ghost use Rattle.trex_vm.specs.Rules.{least_length, room_of, is_trim, trim_wrong, writes_past, has_ipv4, finds_header, misses_header, touches, touches_header_of, touches_shape, accepts};
 ghost use Rattle.trex_vm.specs.Program.{TakesFrom};
 
-use crate::fix::{HEADER_SUM, PROTOCOL, least_segment, protocol_of, sum_place, words_to_bytes};
+use crate::effect::Fix;
+use crate::fix::{PROTOCOL, least_segment, protocol_of, words_to_bytes};
 use crate::instr::{Instr, Operand};
 use crate::write::part_of;
 use trex_layers::SHORTEST_PACKET;
@@ -20,7 +21,7 @@ const VERSION: u8 = 4;
 
 const LEAST_HEADER: usize = 20;
 
-// the least number that an operand takes
+/// The least number that an operand takes
 fn least_in(vars: &[VarSpec], from: Operand) -> u64
     requires { from.var < length vars.now }
     ensures { result ≡ number_in (map least (map variable_of vars.now)) from }
@@ -28,7 +29,7 @@ fn least_in(vars: &[VarSpec], from: Operand) -> u64
     part_of(from.part, vars[from.var].least())
 }
 
-// the greatest number that an operand takes
+/// The greatest number that an operand takes
 fn greatest_in(vars: &[VarSpec], from: Operand) -> u64
     requires { from.var < length vars.now }
     ensures { result ≡ number_in (map greatest (map variable_of vars.now)) from }
@@ -42,7 +43,7 @@ pub fn least_length(vars: &[VarSpec], instrs: &[Instr], template: usize) -> usiz
     ensures { result ≡ least_length (map variable_of vars.now) instrs.now template }
 {
     for instr in instrs {
-        if let Instr::Trim { from } = *instr {
+        if let Some(from) = instr.trim_of() {
             return least_in(vars, from) as usize;
         }
     }
@@ -64,7 +65,7 @@ pub fn room_of(shortest: usize, stamped: bool) -> usize
 pub fn is_trim(instr: &Instr) -> bool
     ensures { result ≡ is_trim instr.now }
 {
-    matches!(*instr, Instr::Trim { .. })
+    instr.trim_of().is_some()
 }
 
 /// Whether an instruction is a trim whose least number is below 14, or whose greatest is above the template's length in bytes.
@@ -72,47 +73,39 @@ pub fn trim_wrong(vars: &[VarSpec], template: usize, instr: &Instr) -> bool
     requires { TakesFrom (length vars.now) instr.now }
     ensures { result ≡ trim_wrong (map variable_of vars.now) template instr.now }
 {
-    match *instr {
-        Instr::Trim { from } => {
+    match instr.trim_of() {
+        Some(from) => {
             least_in(vars, from) < SHORTEST_PACKET as u64 || greatest_in(vars, from) > template as u64
         }
-        _ => false,
+        None => false,
     }
-}
-
-// whether so many bytes from a place on end after the room
-fn ends_after(room: usize, at: usize, size: u8) -> bool
-    ensures { result ≡ nat_lt room (at + size) }
-{
-    (room as u128) < at as u128 + u128::from(size)
 }
 
 /// Whether an instruction is a write that ends after the room.
 pub fn writes_past(room: usize, instr: &Instr) -> bool
     ensures { result ≡ writes_past room instr.now }
 {
-    match *instr {
-        Instr::Write { from, at, .. } => ends_after(room, at, from.size),
-        Instr::WriteMask { at, cast, .. } => ends_after(room, at, cast),
-        _ => false,
+    match instr.write_of() {
+        Some(span) => (room as u128) < span.at + u128::from(span.size),
+        None => false,
     }
 }
 
-// whether so many bytes from a place on lie within a room
+/// Whether so many bytes from a place on lie within a room
 fn is_within(at: usize, size: usize, room: usize) -> bool
     ensures { result ≡ nat_le (at + size) room }
 {
     at <= room && size <= room - at
 }
 
-// the byte at a place, or 0 past the last
+/// The byte at a place, or 0 past the last
 fn byte_at(bytes: &[u8], at: usize) -> u8
     ensures { result ≡ slice_index bytes.now at }
 {
     bytes.get(at).copied().unwrap_or(0)
 }
 
-// whether an IPv4 header stands at a place
+/// Whether an IPv4 header stands at a place
 fn has_ipv4(bytes: &[u8], room: usize, at: usize) -> bool
     ensures { result ≡ has_ipv4 bytes.now room at }
 {
@@ -124,65 +117,55 @@ fn has_ipv4(bytes: &[u8], room: usize, at: usize) -> bool
         && is_within(at, header, room)
 }
 
+/// Whether a fix finds its header.
+fn finds_header(template: &[u8], room: usize, fix: Fix) -> bool
+    ensures { result ≡ finds_header template.now room fix }
+{
+    match fix {
+        Fix::Header { at } => has_ipv4(template, room, at),
+        Fix::Segment { ip, header, kind } => {
+            has_ipv4(template, room, ip)
+                && header == words_to_bytes(byte_at(template, ip))
+                && byte_at(template, ip + PROTOCOL) == protocol_of(kind)
+                && is_within(ip, header + least_segment(kind), room)
+        }
+    }
+}
+
 /// Whether an instruction is a fix that has no header to fix within the room: an IPv4 header of version 4 and at least 20 bytes; for a
 /// segment also the header's length as given, the protocol 6 or 17, and the segment's own header.
 pub fn misses_header(template: &[u8], room: usize, instr: &Instr) -> bool
     ensures { result ≡ misses_header template.now room instr.now }
 {
-    match *instr {
-        Instr::FixIpv4 { at } => !has_ipv4(template, room, at),
-        Instr::FixL4 { ip, header, kind } => {
-            !(has_ipv4(template, room, ip)
-                && header == words_to_bytes(byte_at(template, ip))
-                && byte_at(template, ip + PROTOCOL) == protocol_of(kind)
-                && is_within(ip, header + least_segment(kind), room))
-        }
-        _ => false,
+    match instr.fix_of() {
+        Some(fix) => !finds_header(template, room, fix),
+        None => false,
     }
 }
 
-// the first byte that an instruction writes
-fn writes_at(instr: &Instr) -> u128
-    ensures value { result ≡ writes_at instr.now }
-    ensures small { result < 2 ^ 66 }
-{
-    match *instr {
-        Instr::Write { at, .. } | Instr::WriteMask { at, .. } => at as u128,
-        Instr::FixIpv4 { at } => at as u128 + HEADER_SUM as u128,
-        Instr::FixL4 { ip, header, kind } => ip as u128 + header as u128 + sum_place(kind) as u128,
-        Instr::Trim { .. } => 0,
-    }
-}
-
-// how many bytes an instruction writes
-fn writes_size(instr: &Instr) -> u8
-    ensures { result ≡ writes_size instr.now }
-{
-    match *instr {
-        Instr::Write { from, .. } => from.size,
-        Instr::WriteMask { cast, .. } => cast,
-        Instr::FixIpv4 { .. } | Instr::FixL4 { .. } => 2,
-        Instr::Trim { .. } => 0,
-    }
-}
-
-// whether an instruction writes a byte
+/// Whether an instruction writes a byte.
 fn writes_byte(instr: &Instr, byte: u128) -> bool
     ensures { result ≡ writes_byte instr.now byte }
 {
-    let at = writes_at(instr);
-    at <= byte && byte < at + u128::from(writes_size(instr))
+    let span = instr.span_of();
+    span.at <= byte && byte < span.at + u128::from(span.size)
 }
 
-// whether an instruction writes the first byte or the protocol of the header at a place
-fn touches(instr: &Instr, other: &Instr) -> bool
-    ensures { result ≡ touches instr.now (header_place other.now) }
+/// Whether an instruction writes the first byte or the protocol of the header that a fix names.
+fn touches(instr: &Instr, fix: Fix) -> bool
+    ensures { result ≡ touches instr.now fix }
 {
-    match *other {
-        Instr::FixIpv4 { at: ip } | Instr::FixL4 { ip, .. } => {
-            writes_byte(instr, ip as u128) || writes_byte(instr, ip as u128 + PROTOCOL as u128)
-        }
-        _ => false,
+    let ip = fix.header() as u128;
+    writes_byte(instr, ip) || writes_byte(instr, ip + PROTOCOL as u128)
+}
+
+/// Whether an instruction writes the first byte or the protocol of the header that another one names, where that is a fix.
+fn touches_header_of(instr: &Instr, other: &Instr) -> bool
+    ensures { result ≡ touches_header_of instr.now other.now }
+{
+    match other.fix_of() {
+        Some(fix) => touches(instr, fix),
+        None => false,
     }
 }
 
@@ -191,10 +174,10 @@ fn touches(instr: &Instr, other: &Instr) -> bool
 pub fn touches_shape(instrs: &[Instr], instr: &Instr) -> bool
     ensures { result ≡ touches_shape instrs.now instr.now }
 {
-    instrs.iter().any(|other| touches(instr, other))
+    instrs.iter().any(|other| touches_header_of(instr, other))
 }
 
-// whether a trim of the instructions is out of its range
+/// Whether a trim of the instructions is out of its range
 fn any_trim_wrong(vars: &[VarSpec], template: usize, instrs: &[Instr]) -> bool
     requires { All (TakesFrom (length vars.now)) instrs.now }
     ensures { result ≡ list_any (trim_wrong (map variable_of vars.now) template) instrs.now }

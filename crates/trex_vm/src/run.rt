@@ -54,7 +54,7 @@ fn packet_length(instrs: &[Instr], values: &[VarValue], whole: usize) -> usize
     ensures { result ≡ trimmed values.now instrs.now whole }
 {
     for instr in instrs {
-        if let Instr::Trim { from } = *instr {
+        if let Some(from) = instr.trim_of() {
             return number_in(values, from) as usize;
         }
     }

@@ -1,0 +1,35 @@
+-- What an instruction does to a packet, by three projections: each kind of instruction writes a number, fixes a checksum or cuts the packet. Own.
+use Rattle.std.specs.Prelude.{ℕ, ◌+◌, Option, Some, None}
+use Rattle.trex_vm.specs.declared.effect.Fix.{Fix}
+use Rattle.trex_vm.specs.declared.effect.Fix.TheVariants.{Header, Segment}
+use Rattle.trex_vm.specs.declared.effect.Span.{Span}
+use Rattle.trex_vm.specs.declared.instr.Instr.{Instr}
+use Rattle.trex_vm.specs.declared.instr.Instr.TheVariants.{Write, WriteMask, FixIpv4, FixL4, Trim}
+use Rattle.trex_vm.specs.declared.instr.Operand.{Operand}
+
+-- the first byte behind some bytes
+abbrev pub end_of : Span → ℕ
+end_of span = span.at + span.size
+
+-- the bytes that a write puts its number in
+abbrev pub write_of : Instr → Option Span
+write_of (Write from at add big) = Some (record { at = at; size = from.size })
+write_of (WriteMask from at cast mask shift add big) = Some (record { at = at; size = cast })
+write_of _ = None
+
+-- what a fix writes the checksum of
+abbrev pub fix_of : Instr → Option Fix
+fix_of (FixIpv4 at) = Some (Header at)
+fix_of (FixL4 ip header kind) = Some (Segment ip header kind)
+fix_of _ = None
+
+-- the operand whose number of bytes a trim leaves
+abbrev pub trim_of : Instr → Option Operand
+trim_of (Trim from) = Some from
+trim_of _ = None
+
+-- the operand that an instruction takes: that of a write or a trim
+abbrev pub operand_of : Instr → Option Operand
+operand_of (Write from at add big) = Some from
+operand_of (WriteMask from at cast mask shift add big) = Some from
+operand_of instr = trim_of instr
