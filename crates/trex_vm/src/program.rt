@@ -1,6 +1,6 @@
 // Programs over a packet's bytes.
 
-ghost use Rattle.std.specs.Prelude.{◌≡◌, ◌≤◌, is_some, IfSome, length, map};
+ghost use Rattle.std.specs.Prelude.{◌≡◌, ◌≤◌, true, is_some, IfSome, length, map};
 ghost use Rattle.trex_vars.specs.Variable.{variable_of};
 ghost use Rattle.trex_vm.specs.Rules.{accepts};
 ghost use Rattle.trex_vm.specs.Program.{AreOperandsOf, AreSound, IsProgram, plan_of};
@@ -54,15 +54,32 @@ impl Program {
         if !accepts(vars, template, stamped, &instrs) {
             return None;
         }
+        Some(Program::of_accepted(instrs, vars, template, stamped))
+    }
+
+    /// The program of instructions that break none of the rules of `new`, for a caller that knows it: no rule is tested again.
+    pub fn of_accepted(
+        instrs: Vec<Instr>,
+        vars: &[VarSpec],
+        template: &[u8],
+        stamped: bool,
+    ) -> Program
+        requires long { SHORTEST_PACKET ≤ length template.now }
+        requires short { length template.now ≤ LONGEST_PACKET }
+        requires operands { AreOperandsOf (map variable_of vars.now) instrs.items }
+        requires sound { AreSound (map variable_of vars.now) }
+        requires accepted { accepts (map variable_of vars.now) template.now stamped instrs.items ≡ true }
+        ensures { result ≡ plan_of instrs.items (map variable_of vars.now) template.now stamped }
+    {
         // the law bounds the least length by the template's
         programs_fit();
         let least = least_length(vars, &instrs, template.len());
-        Some(Program {
+        Program {
             instrs,
             template: template.len(),
             least,
             stamps: stamped,
-        })
+        }
     }
 
     /// The program's instructions, and what holds of every program.
