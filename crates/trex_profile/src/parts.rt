@@ -82,8 +82,5 @@ pub(crate) fn program_for(
     if let Some(breach) = place_breach(template, room, steps, &instrs) {
         return Err(StreamFault::Broken(breach));
     }
-    match Program::new(instrs, vars, template, stamped) {
-        Some(program) => Ok(program),
-        None => unreachable!(),
-    }
+    Ok(Program::of_accepted(instrs, vars, template, stamped))
 }
