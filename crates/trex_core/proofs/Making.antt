@@ -15,7 +15,7 @@ use Rattle.trex_vars.specs.declared.value.VarValue.{VarValue}
 use Rattle.trex_vars.specs.Variable.{Variable}
 use Rattle.trex_vm.specs.declared.instr.Instr.{Instr}
 use Rattle.trex_vm.specs.Packet.{packet}
-use Rattle.trex_vm.specs.Program.{Plan}
+use Rattle.trex_vm.specs.Program.{ProgramView}
 
 -- what is said of a value that there is
 pub some_is : {A : Type 0} (o : Option A) (P : A → Type 0) → IsSomeAnd o P → (x : A) × (o ≡ Some x) × P x
@@ -33,7 +33,7 @@ pub packet_is : (p : List Stream) (base : ℕ) (slot : Slot) (s : Stream) (spec 
     → packet spec.program.instrs values stamp template ≡ packet_bytes p base slot
 unfolding packet_bytes
 packet_is p base slot s spec values stamp template time there is read due header bytes =
-    let instrs : spec.program.instrs ≡ program s = ap (λ (plan : Plan). plan.instrs) is.plan in
+    let instrs : spec.program.instrs ≡ program s = ap (λ (view : ProgramView). view.instrs) is.plan in
     let stamped : stamp ≡ stamp_at s slot.number (base * 10 ^ 9 + slot.time) =
     header
     ∙ ap (option_map (λ (flow : ℕ). let h : Stamp = record { flow = flow; sequence = slot.number % 2 ^ 32; time = time } in h)) is.flow

@@ -17,7 +17,7 @@ use trex_vars::VarValue;
 use trex_vm::run_plain;
 
 /// The most bytes that a packet has.
-pub const LONGEST_PACKET: usize = 9_216;
+pub const LONGEST_PACKET: usize = trex_layers::LONGEST_PACKET;
 
 /// What a core makes its packets with. Contracts see it as the plan.
 #[derive(Drop)]

@@ -13,9 +13,8 @@ use Rattle.trex_vars.specs.Variable.{Variable, Tuple}
 use Rattle.trex_vars.specs.Value.{value_at}
 use Rattle.trex_vars.proofs.Between.{value-between}
 use Rattle.trex_vm.specs.declared.instr.Instr.{Instr}
-use Rattle.trex_vm.specs.declared.instr.Instr.TheVariants.{Write, WriteMask, FixIpv4, FixL4, Trim}
 use Rattle.trex_vm.specs.Program.{TakesFrom, AreSound}
-use Rattle.trex_vm.specs.Rules.{least_length, room_of, is_trim, trim_wrong, writes_past, misses_header, touches_shape, accepts}
+use Rattle.trex_vm.specs.Rules.{least_length, room_of, is_trim, trim_wrong, writes_past, misses_header, overwrites_header_kind, accepts}
 use Rattle.trex_vm.proofs.Ends.{AreBetween, trimmed-between}
 use Rattle.trex_profile.specs.declared.rule.Rule.{Rule}
 use Rattle.trex_profile.specs.declared.rule.Rule.TheVariants.{TwoTrims, TrimRange, NoRoomForStamp, WriteRoom, BadFix, WriteOnShape}
@@ -60,15 +59,15 @@ finds template room (s ∷ steps) none =
     let here = or_parts (does (misses_header template room) s) (header_wrong template s) both.0 in
     ap (λ test. test || list_any (does (misses_header template room)) steps) here.0 ∙ finds template room steps both.1
 
+one-or-none : (test : Bool) → (if test then 1 else 0) + 0 ≡ (if test || false then 1 else 0)
+one-or-none true = refl
+one-or-none false = refl
+
 -- a step is one trim or none
 count-does : (s : Step) → count_by is_trim (instrs_of s) ≡ (if does is_trim s then 1 else 0)
 count-does Makes = refl
 count-does MissesField = refl
-count-does (Does (Write from at add big)) = refl
-count-does (Does (WriteMask from at cast mask shift add big)) = refl
-count-does (Does (FixIpv4 at)) = refl
-count-does (Does (FixL4 ip header kind)) = refl
-count-does (Does (Trim from)) = refl
+count-does (Does instr) = sum_by-cons (λ (i : Instr). if is_trim i then 1 else 0) instr [] ∙ one-or-none (is_trim instr)
 count-does (FixesHeader at header) = refl
 count-does (FixesSegment ip header kind) = refl
 
@@ -153,13 +152,13 @@ accepted vars template stamped steps lengths places =
     let one = (once [] steps three.0).1 refl in
     let few : count_by is_trim program ≤ 1 = omega (arith, count-program steps) in
     all-six (nat_le (count_by is_trim program) 1) (list_any (trim_wrong vars whole) program) (stamped && nat_lt shortest SHORTEST_STAMPED) (list_any (writes_past room) program)
-    (list_any (misses_header template room) program) (list_any (touches_shape program) program)
+    (list_any (misses_header template room) program) (list_any (overwrites_header_kind program) program)
     (few-enough (count_by is_trim program) few)
     (cuts-none vars whole stamped steps lengths)
     (whole-none NoRoomForStamp (stamped && nat_lt shortest SHORTEST_STAMPED) three.2)
     (does-program (writes_past room) steps ∙ each-none WriteRoom (does (writes_past room)) 0 steps further.0)
     (does-program (misses_header template room) steps ∙ finds template room steps (each-none BadFix (fix_wrong template room) 0 steps further.1))
-    (does-program (touches_shape program) steps ∙ each-none WriteOnShape (does (touches_shape program)) 0 steps further.2)
+    (does-program (overwrites_header_kind program) steps ∙ each-none WriteOnShape (does (overwrites_header_kind program)) 0 steps further.2)
 
 -- the room lies within the template
 pub room-within : (vars : List Variable) (whole : ℕ) (stamped : Bool) (steps : List Step) → AreSound vars → All (TakesFrom (length vars)) (program_of steps)

@@ -7,7 +7,7 @@ use Rattle.trex_vars.specs.Variable.{Variable}
 use Rattle.trex_vars.specs.Check.{fault_of}
 use Rattle.trex_vm.specs.declared.instr.Instr.{Instr}
 use Rattle.trex_vm.specs.Fix.{header_length}
-use Rattle.trex_vm.specs.Rules.{least_length, room_of, is_trim, trim_wrong, writes_past, misses_header, touches_shape}
+use Rattle.trex_vm.specs.Rules.{least_length, room_of, is_trim, trim_wrong, writes_past, misses_header, overwrites_header_kind}
 use Rattle.trex_profile.specs.declared.refusal.Breach.{Breach}
 use Rattle.trex_profile.specs.declared.rule.Rule.TheVariants.{VarName, VarRange, UnknownVariable, TwoTrims, TrimRange, NoRoomForStamp, BadField, WriteRoom, BadFix, WriteOnShape}
 use Rattle.trex_profile.specs.declared.step.Step.{Step}
@@ -79,9 +79,9 @@ fix_wrong template room s = does (misses_header template room) s || header_wrong
 abbrev pub fix_rule : List ℕ → ℕ → ℕ → Step → Option Breach
 fix_rule template room place s = rule_there BadFix place (fix_wrong template room s)
 
--- a step writes on a byte on which the place of a fixed header rests
+-- a step writes the version, the length or the protocol of a header that a fix of the program names
 abbrev pub shape_rule : List Instr → ℕ → Step → Option Breach
-shape_rule program place s = rule_there WriteOnShape place (does (touches_shape program) s)
+shape_rule program place s = rule_there WriteOnShape place (does (overwrites_header_kind program) s)
 
 -- the rules on the names of instructions, in their order
 unfoldable pub names_rules : Layers → ℕ → List Instruction → Option Breach

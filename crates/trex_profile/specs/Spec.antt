@@ -3,7 +3,7 @@ use Rattle.std.specs.Prelude.{◌≡◌, ℕ, ◌≤◌, ◌<◌, ◌^◌, lengt
 use Rattle.trex_layers.specs.declared.sizes.TheConstants.{LONGEST_PACKET}
 use Rattle.trex_vars.specs.Variable.{variable_of}
 use Rattle.trex_vars.specs.Value.{value_at}
-use Rattle.trex_vm.specs.Program.{AreSound, AreValuesOf, IsTemplateOf, plan_of}
+use Rattle.trex_vm.specs.Program.{AreSound, AreValuesOf, IsTemplateOf, program_view}
 use Rattle.trex_profile.specs.declared.member.StreamSpec.{StreamSpec}
 use Rattle.trex_profile.specs.Packets.{variables, program, packet_of, EndsInStamp}
 use Rattle.trex_profile.specs.Stream.{Stream}
@@ -17,7 +17,7 @@ pub record IsSpecOf (s : Stream) (spec : StreamSpec) : Type 0 where
   pub flow : spec.flow ≡ s.flow
   pub vars : map variable_of spec.vars.items ≡ variables s
   pub sound : AreSound (variables s)
-  pub plan : spec.program ≡ plan_of (program s) (variables s) s.template (is_some s.flow)
+  pub plan : spec.program ≡ program_view (program s) (variables s) s.template (is_some s.flow)
   pub fits : IsTemplateOf spec.program s.template
   pub values : (number : ℕ) → AreValuesOf spec.program (map (λ v. value_at v number) (variables s))
   pub short : (number time : ℕ) → length (packet_of s number time) ≤ LONGEST_PACKET

@@ -3,7 +3,7 @@
 ghost use Rattle.std.specs.Prelude.{◌≡◌, ◌≤◌, ◌^◌, List, All, IfOk, length, map, true};
 ghost use Rattle.trex_layers.specs.Layers.{BeginBelow};
 ghost use Rattle.trex_vars.specs.Variable.{Variable, variable_of};
-ghost use Rattle.trex_vm.specs.Program.{AreOperandsOf, AreSound, TakesFrom, plan_of};
+ghost use Rattle.trex_vm.specs.Program.{AreOperandsOf, AreSound, TakesFrom, program_view};
 ghost use Rattle.trex_vm.specs.Rules.{accepts};
 ghost use Rattle.trex_profile.specs.Answer.{Gives};
 ghost use Rattle.trex_profile.specs.InstrRules.{names_rules, does_rules};
@@ -71,7 +71,7 @@ pub(crate) fn program_for(
     requires operands { AreOperandsOf (map variable_of vars.now) (program_of steps.now) }
     requires each { All (λ step. All (TakesFrom (length vars.now)) (instrs_of step)) steps.now }
     ensures value { Gives (λ program. program) result (unless (does_rules (map variable_of vars.now) template.now stamped steps.now)
-        (plan_of (program_of steps.now) (map variable_of vars.now) template.now stamped)) }
+        (program_view (program_of steps.now) (map variable_of vars.now) template.now stamped)) }
     ensures accepts { IfOk result (λ _. accepts (map variable_of vars.now) template.now stamped (program_of steps.now) ≡ true) }
 {
     let instrs = program_of(alloc, steps)?;

@@ -4,7 +4,7 @@ ghost use Rattle.std.specs.Prelude.{◌≡◌, ◌≤◌, ◌==◌, not, All, le
 ghost use Rattle.trex_vars.specs.Variable.{variable_of};
 ghost use Rattle.trex_vm.specs.Fix.{header_length};
 ghost use Rattle.trex_vm.specs.Program.{AreSound, TakesFrom};
-ghost use Rattle.trex_vm.specs.Rules.{is_trim, least_length, trim_wrong, writes_past, touches_shape};
+ghost use Rattle.trex_vm.specs.Rules.{is_trim, least_length, trim_wrong, writes_past, overwrites_header_kind};
 ghost use Rattle.trex_profile.specs.InstrRules.{twice_rule, trim_rule, field_rule, room_rule, fix_rule, shape_rule, does, misses_field, fix_wrong, length_rules, place_rules};
 ghost use Rattle.trex_profile.specs.Order.{first_each};
 ghost use Rattle.trex_profile.specs.Steps.{instrs_of, program_of};
@@ -15,7 +15,7 @@ use crate::step::Step;
 use trex_stamp::SHORTEST_STAMPED;
 use trex_vars::VarSpec;
 use trex_vm::{
-    Instr, is_trim, least_length, misses_header, touches_shape, trim_wrong, writes_past,
+    Instr, is_trim, least_length, misses_header, overwrites_header_kind, trim_wrong, writes_past,
 };
 
 /// Whether a step is a trim.
@@ -185,22 +185,22 @@ fn wrong_fix(template: &[u8], room: usize, steps: &[Step]) -> Option<Breach>
     None
 }
 
-/// Whether a step writes on a byte on which the place of a fixed header rests.
+/// Whether a step writes the version, the length or the protocol of a header that a fix of the program names.
 fn writes_on_shape(program: &[Instr], step: &Step) -> bool
-    ensures { result ≡ does (touches_shape program.now) step.now }
+    ensures { result ≡ does (overwrites_header_kind program.now) step.now }
 {
     match *step {
         Step::Makes | Step::MissesField => false,
-        Step::Does(instr) => touches_shape(program, &instr),
-        Step::FixesHeader { at, .. } => touches_shape(program, &Instr::FixIpv4 { at }),
+        Step::Does(instr) => overwrites_header_kind(program, &instr),
+        Step::FixesHeader { at, .. } => overwrites_header_kind(program, &Instr::FixIpv4 { at }),
         Step::FixesSegment { ip, header, kind } => {
-            touches_shape(program, &Instr::FixIpv4 { at: ip })
-                || touches_shape(program, &Instr::FixL4 { ip, header, kind })
+            overwrites_header_kind(program, &Instr::FixIpv4 { at: ip })
+                || overwrites_header_kind(program, &Instr::FixL4 { ip, header, kind })
         }
     }
 }
 
-/// The breach by a write on a byte on which the place of a fixed header rests.
+/// The breach by a step that writes the version, the length or the protocol of a header that a fix of the program names.
 fn write_on_shape(program: &[Instr], steps: &[Step]) -> Option<Breach>
     requires { length steps.now ≤ 256 }
     ensures { result ≡ first_each (shape_rule program.now) 0 steps.now }

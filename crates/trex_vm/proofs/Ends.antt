@@ -19,8 +19,8 @@ use Rattle.trex_vm.specs.declared.instr.Instr.TheVariants.{Write, WriteMask}
 use Rattle.trex_vm.specs.Effect.{trim_of}
 use Rattle.trex_vm.specs.Write.{part_of, number_in}
 use Rattle.trex_vm.specs.Packet.{trimmed}
-use Rattle.trex_vm.specs.Rules.{least_length, room_of, is_trim, cuts_wrong, trim_wrong, writes_past, misses_header, touches_shape, accepts}
-use Rattle.trex_vm.specs.Program.{IsFormed, IsProgram, TakesFrom, plan_of}
+use Rattle.trex_vm.specs.Rules.{least_length, room_of, is_trim, cuts_wrong, trim_wrong, writes_past, misses_header, overwrites_header_kind, accepts}
+use Rattle.trex_vm.specs.Program.{IsFormed, IsProgram, TakesFrom, program_view}
 
 -- the number that an operand takes from values that a function gives
 pub number_in-map : (f : Variable → VarValue) (vars : List Variable) (from : Operand) (d : Variable) → from.var < length vars
@@ -112,7 +112,7 @@ pub record Accepted (vars : List Variable) (template : List ℕ) (stamped : Bool
   pub stamp : (stamped && nat_lt (least_length vars instrs (length template)) SHORTEST_STAMPED) ≡ false
   pub places : list_any (writes_past (room_of (least_length vars instrs (length template)) stamped)) instrs ≡ false
   pub headers : list_any (misses_header template (room_of (least_length vars instrs (length template)) stamped)) instrs ≡ false
-  pub shape : list_any (touches_shape instrs) instrs ≡ false
+  pub kinds : list_any (overwrites_header_kind instrs) instrs ≡ false
 
 six_parts : (a b c d e f : Bool) → (a && not b && not c && not d && not e && not f) ≡ true
     → (a ≡ true) × (b ≡ false) × (c ≡ false) × (d ≡ false) × (e ≡ false) × (f ≡ false)
@@ -128,7 +128,7 @@ pub accepts-tells : (vars : List Variable) (template : List ℕ) (stamped : Bool
     → Accepted vars template stamped instrs
 accepts-tells vars template stamped instrs accepted =
     let all = six_parts (nat_le (count_by is_trim instrs) 1) _ _ _ _ _ accepted in
-    record { trims = leb-true (count_by is_trim instrs) 1 all.0; cuts = all.1; stamp = all.2; places = all.3; headers = all.4; shape = all.5 }
+    record { trims = leb-true (count_by is_trim instrs) 1 all.0; cuts = all.1; stamp = all.2; places = all.3; headers = all.4; kinds = all.5 }
 
 pub stamp-tells : (stamped : Bool) (shortest : ℕ) → (stamped && nat_lt shortest SHORTEST_STAMPED) ≡ false → IsTrue stamped → SHORTEST_STAMPED ≤ shortest
 stamp-tells true shortest fine is = ltb-false shortest SHORTEST_STAMPED fine
@@ -137,7 +137,7 @@ stamp-tells false shortest fine is = absurd (cc)
 -- what is accepted is a program
 pub accepted-program : (instrs : List Instr) (vars : List Variable) (template : List ℕ) (stamped : Bool) → SHORTEST_PACKET ≤ length template → length template ≤ LONGEST_PACKET
     → All IsFormed instrs → least_length vars instrs (length template) ≤ length template → Accepted vars template stamped instrs
-    → IsProgram (plan_of instrs vars template stamped)
+    → IsProgram (program_view instrs vars template stamped)
 accepted-program instrs vars template stamped long short formed cut known = record {
   long = least_length-bound vars instrs (length template) long known.cuts;
   stamp = stamp-tells stamped (least_length vars instrs (length template)) known.stamp;
@@ -146,5 +146,5 @@ accepted-program instrs vars template stamped long short formed cut known = reco
   trims = known.trims;
   formed = formed;
   places = known.places;
-  shape = known.shape;
+  kinds = known.kinds;
 }

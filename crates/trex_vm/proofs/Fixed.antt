@@ -11,7 +11,7 @@ use Rattle.trex_fields.specs.Bytes.{put}
 use Rattle.trex_fields.proofs.Puts.{length-put, get_or-put_before, put-put, slice_range-put, slice_range-same}
 use Rattle.trex_vm.specs.declared.instr.L4Kind.{L4Kind}
 use Rattle.trex_vm.specs.declared.instr.L4Kind.TheVariants.{Tcp, Udp}
-use Rattle.trex_vm.specs.Fix.{summed, header_length, header_at, written_sum, least_segment, sum_place, segment_length, segment_fits, pseudo_header, segment_at}
+use Rattle.trex_vm.specs.Fix.{with_checksum, header_length, header_at, written_sum, least_segment, sum_place, segment_length, segment_fits, pseudo_header, segment_at}
 
 -- the part holds the field: so many whole words, the field, and the rest
 pub record HoldsField (part : List ℕ → List ℕ) (field : ℕ) (b : List ℕ) : Type 0 where
@@ -27,10 +27,10 @@ Completes-written_sum Tcp = Completes-plain
 Completes-written_sum Udp = Completes-ones_for_zero
 
 -- a part whose field is summed verifies
-pub summed-verifies : (written : ℕ → ℕ) (part : List ℕ → List ℕ) (field : ℕ) (b : List ℕ) → Completes written → HoldsField part field b
-    → Verifies (sum_of (part (summed written part field b)))
-unfolding summed
-summed-verifies written part field b completes holds =
+pub with_checksum-verifies : (written : ℕ → ℕ) (part : List ℕ → List ℕ) (field : ℕ) (b : List ℕ) → Completes written → HoldsField part field b
+    → Verifies (sum_of (part (with_checksum written part field b)))
+unfolding with_checksum
+with_checksum-verifies written part field b completes holds =
     let zeroed = put field (0 ∷ 0 ∷ []) b in
     let s = sum_of (part zeroed) in
     let n = written (65535 - fold_of s) in
@@ -45,10 +45,10 @@ summed-verifies written part field b completes holds =
     ap fold_of total ∙ completes.folds s
 
 -- the steps of a fix: the field is zeroed, the part is summed, and the number is written
-pub summed_by_steps : (written : ℕ → ℕ) (part : List ℕ → List ℕ) (field : ℕ) (old zeroed new : List ℕ) (s n : ℕ) → zeroed ≡ put field (0 ∷ 0 ∷ []) old
-    → s ≡ sum_of (part zeroed) → n ≡ written (65535 - fold_of s) → new ≡ put field (big_bytes 2 n) zeroed → new ≡ summed written part field old
-unfolding summed
-summed_by_steps written part field old zeroed new s n zeroes sums completes writes = cc
+pub with_checksum_by_steps : (written : ℕ → ℕ) (part : List ℕ → List ℕ) (field : ℕ) (old zeroed new : List ℕ) (s n : ℕ) → zeroed ≡ put field (0 ∷ 0 ∷ []) old
+    → s ≡ sum_of (part zeroed) → n ≡ written (65535 - fold_of s) → new ≡ put field (big_bytes 2 n) zeroed → new ≡ with_checksum written part field old
+unfolding with_checksum
+with_checksum_by_steps written part field old zeroed new s n zeroes sums completes writes = cc
 
 -- a write behind byte `at` keeps the header's length
 pub header_length-put : (at field : ℕ) (new b : List ℕ) → at < field → field + length new ≤ length b → header_length (put field new b) at ≡ header_length b at

@@ -12,13 +12,12 @@ use Rattle.trex_stamp.specs.declared.header.Stamp.{Stamp}
 use Rattle.trex_stamp.specs.Stamp.{stamp_bytes}
 use Rattle.trex_vars.specs.declared.value.VarValue.{VarValue}
 use Rattle.trex_vm.specs.declared.instr.Instr.{Instr}
-use Rattle.trex_vm.specs.Effect.{end_of}
-use Rattle.trex_vm.specs.Cover.{span_of, writes_byte}
-use Rattle.trex_vm.specs.Packet.{front, packet, stamped}
-use Rattle.trex_vm.specs.Program.{Plan, room}
+use Rattle.trex_vm.specs.Effect.{end_of, span_of, writes_byte}
+use Rattle.trex_vm.specs.Packet.{stamped_template, packet, stamped}
+use Rattle.trex_vm.specs.Program.{ProgramView, room}
 use Rattle.trex_vm.specs.Rules.{misses_header, writes_past}
-use Rattle.trex_vm.proofs.Steps.{get_or-applied, place-within}
-use Rattle.trex_vm.proofs.Theorem.{cut, length-front, length-packet, none_pass, Runs, Runs-cut, Runs-long, Runs-room}
+use Rattle.trex_vm.proofs.Steps.{get_or-after_all, place-within}
+use Rattle.trex_vm.proofs.Theorem.{cut, length-stamped_template, length-packet, none_pass, Runs, Runs-cut, Runs-long, Runs-room}
 
 -- lists that agree from a place on have one rest
 rest-same : (m : ℕ) (b c : List ℕ) → length b ≡ length c → m ≤ length b → ((k : ℕ) → m ≤ k → k < length b → get_or b k 0 ≡ get_or c k 0) → drop m b ≡ drop m c
@@ -46,17 +45,17 @@ unwritten : (i : Instr) (limit k : ℕ) → end_of (span_of i) ≤ limit → lim
 unwritten i limit k within behind = grind (arith, nat_tests)
 
 -- a packet with a latency header ends in it
-pub packet-stamped : (p : Plan) (values : List VarValue) (s : Stamp) (template : List ℕ) → Runs p values (Some s) template
+pub packet-stamped : (p : ProgramView) (values : List VarValue) (s : Stamp) (template : List ℕ) → Runs p values (Some s) template
     → (front : List ℕ) × (packet p.instrs values (Some s) template ≡ front ++ stamp_bytes s)
 packet-stamped p values s template runs =
     let n = cut p values template in
     let m = n - 16 in
-    let b = front p.instrs values (Some s) template in
+    let b = stamped_template p.instrs values (Some s) template in
     let whole = packet p.instrs values (Some s) template in
     let start = take n template in
     let start_long : length start ≡ n = length-take-le n template (Runs-cut p values (Some s) template runs).1 in
     let wide = Runs-long p values (Some s) template runs refl in
-    let front_long = length-front p values (Some s) template runs in
+    let front_long = length-stamped_template p values (Some s) template runs in
     let whole_long = length-packet p values (Some s) template runs in
     let behind : room p ≤ m = Runs-room p values (Some s) template runs in
     let places = none_pass (writes_past (room p)) p.instrs runs.program.places in
@@ -65,7 +64,7 @@ packet-stamped p values s template runs =
     λ j d below. place-within (get_or p.instrs j d) template (room p) (places j d below) (headers j d below) in
     let each = recursion_from_All (λ i. end_of (span_of i) ≤ room p) p.instrs within in
     let rest : drop m whole ≡ drop m b = rest-same m whole b (omega arith) (omega arith) (λ k from below.
-    get_or-applied values p.instrs b (room p) k each (omega arith)
+    get_or-after_all values p.instrs b (room p) k each (omega arith)
     (recursion_from_All (λ i. writes_byte i k ≡ false) p.instrs (λ j d less. unwritten (get_or p.instrs j d) (room p) k (within j d less) (omega arith)))) in
     let header : drop m b ≡ stamp_bytes s = ap (λ (at : ℕ). drop (at - 16) b) (sym start_long) ∙ stamped-rest s start (omega arith) in
     (take m whole, sym (take-append-drop m whole) ∙ ap (λ (xs : List ℕ). take m whole ++ xs) (rest ∙ header))

@@ -19,14 +19,14 @@ use Rattle.trex_vm.specs.declared.effect.Fix.TheVariants.{Header, Segment}
 use Rattle.trex_vm.specs.declared.effect.Span.{Span}
 use Rattle.trex_vm.specs.declared.instr.Instr.{Instr}
 use Rattle.trex_vm.specs.declared.instr.Instr.TheVariants.{Write, WriteMask}
-use Rattle.trex_vm.specs.Effect.{end_of, write_of, fix_of}
-use Rattle.trex_vm.specs.Fix.{summed, header_length, header_at, written_sum, least_segment, protocol_of, sum_place, segment_length, segment_fits, segment_at, pseudo_header, field_of, fixed, header_of}
+use Rattle.trex_vm.specs.Effect.{end_of, write_of, fix_of, changed, span_of, writes_byte}
+use Rattle.trex_vm.specs.Fix.{with_checksum, header_length, header_at, written_sum, least_segment, protocol_of, sum_place, segment_length, segment_fits, segment_at, pseudo_header, field_of, fixed, header_of}
 use Rattle.trex_vm.specs.Write.{bytes_in, sum_in, shifted, masked, number_at}
-use Rattle.trex_vm.specs.Packet.{wrote, applied}
-use Rattle.trex_vm.specs.Cover.{changed, span_of, writes_byte, IsWithin, Covers, CoversByte, CoversSegment, FixVerifies, HeaderVerifies}
+use Rattle.trex_vm.specs.Packet.{after, after_all}
+use Rattle.trex_vm.specs.Cover.{IsWithin, Covers, CoversByte, CoversSegment, FixVerifies, HeaderVerifies}
 use Rattle.trex_vm.specs.Rules.{writes_past, has_ipv4, finds_header, misses_header}
 use Rattle.trex_sum.proofs.Completing.{Completes-plain}
-use Rattle.trex_vm.proofs.Fixed.{Completes-written_sum, HoldsField-header_at, HoldsField-segment_at, summed-verifies, segment_fits-tells, number-same, pseudo_header-same, sum_place-within}
+use Rattle.trex_vm.proofs.Fixed.{Completes-written_sum, HoldsField-header_at, HoldsField-segment_at, with_checksum-verifies, segment_fits-tells, number-same, pseudo_header-same, sum_place-within}
 
 -- some bytes are put there, and the others are as they were
 pub record Puts (span : Span) (b c : List ℕ) : Type 0 where
@@ -38,9 +38,9 @@ length-bytes_in : (big : Bool) (size n : ℕ) → length (bytes_in big size n) �
 length-bytes_in true size n = length-bytes_high_first size n
 length-bytes_in false size n = length-bytes_low_first 0 size n
 
-Puts-summed : (written : ℕ → ℕ) (part : List ℕ → List ℕ) (field : ℕ) (b : List ℕ) → field + 2 ≤ length b → Puts (record { at = field; size = 2 }) b (summed written part field b)
-unfolding summed
-Puts-summed written part field b room =
+Puts-with_checksum : (written : ℕ → ℕ) (part : List ℕ → List ℕ) (field : ℕ) (b : List ℕ) → field + 2 ≤ length b → Puts (record { at = field; size = 2 }) b (with_checksum written part field b)
+unfolding with_checksum
+Puts-with_checksum written part field b room =
     let zeroed = put field (0 ∷ 0 ∷ []) b in
     let n = written (65535 - fold_of (sum_of (part zeroed))) in
     record { new = big_bytes 2 n; long = refl; is = put-put field (big_bytes 2 n) (0 ∷ 0 ∷ []) b room refl }
@@ -51,9 +51,9 @@ Puts-if span b c false puts = inl refl
 
 -- a fix leaves the bytes, or writes its field
 fixed-puts : (fix : Fix) (b : List ℕ) → end_of (field_of fix) ≤ length b → (fixed fix b ≡ b) ⊎ Puts (field_of fix) b (fixed fix b)
-fixed-puts (Header at) b room = inr (Puts-summed (λ n. n) (header_at at) (at + 10) b room)
+fixed-puts (Header at) b room = inr (Puts-with_checksum (λ n. n) (header_at at) (at + 10) b room)
 fixed-puts (Segment ip header kind) b room =
-    Puts-if (field_of (Segment ip header kind)) b _ (segment_fits kind ip header b) (Puts-summed (written_sum kind) (segment_at kind ip header) (ip + header + sum_place kind) b room)
+    Puts-if (field_of (Segment ip header kind)) b _ (segment_fits kind ip header b) (Puts-with_checksum (written_sum kind) (segment_at kind ip header) (ip + header + sum_place kind) b room)
 
 maybe_fixed-puts : (fix : Option Fix) (b : List ℕ) → end_of (changed None fix) ≤ length b
     → (option_map_or (λ it. fixed it b) fix b ≡ b) ⊎ Puts (changed None fix) b (option_map_or (λ it. fixed it b) fix b)
@@ -61,56 +61,56 @@ maybe_fixed-puts None b room = inl refl
 maybe_fixed-puts (Some fix) b room = fixed-puts fix b room
 
 -- an instruction leaves the bytes, or writes its own
-pub wrote-puts : (values : List VarValue) (i : Instr) (b : List ℕ) → end_of (span_of i) ≤ length b → (wrote values i b ≡ b) ⊎ Puts (span_of i) b (wrote values i b)
-wrote-puts values (Write from at add big) b room =
+pub after-puts : (values : List VarValue) (i : Instr) (b : List ℕ) → end_of (span_of i) ≤ length b → (after values i b ≡ b) ⊎ Puts (span_of i) b (after values i b)
+after-puts values (Write from at add big) b room =
     let n = sum_in values from add in inr (record { new = bytes_in big from.size n; long = length-bytes_in big from.size n; is = refl })
-wrote-puts values (WriteMask from at cast mask shift add big) b room =
+after-puts values (WriteMask from at cast mask shift add big) b room =
     let n = masked mask (shifted shift (sum_in values from add)) (number_at big cast at b) in
     inr (record { new = bytes_in big cast n; long = length-bytes_in big cast n; is = refl })
-wrote-puts values i b room = maybe_fixed-puts (fix_of i) b room
+after-puts values i b room = maybe_fixed-puts (fix_of i) b room
 
 -- an instruction keeps the bytes' number
-pub length-wrote : (values : List VarValue) (i : Instr) (b : List ℕ) → end_of (span_of i) ≤ length b → length (wrote values i b) ≡ length b
-length-wrote values i b room =
-    elim (wrote-puts values i b room) [
+pub length-after : (values : List VarValue) (i : Instr) (b : List ℕ) → end_of (span_of i) ≤ length b → length (after values i b) ≡ length b
+length-after values i b room =
+    elim (after-puts values i b room) [
       | inl same ↦ ap length same
       | inr puts ↦ ap length puts.is ∙ length-put (span_of i).at puts.new b (omega (arith, puts.long))
     ]
 
 -- a byte that an instruction doesn't write stays
-pub get_or-wrote : (values : List VarValue) (i : Instr) (b : List ℕ) (k : ℕ) → end_of (span_of i) ≤ length b → writes_byte i k ≡ false
-    → get_or (wrote values i b) k 0 ≡ get_or b k 0
-get_or-wrote values i b k room not_it =
-    elim (wrote-puts values i b room) [
+pub get_or-after : (values : List VarValue) (i : Instr) (b : List ℕ) (k : ℕ) → end_of (span_of i) ≤ length b → writes_byte i k ≡ false
+    → get_or (after values i b) k 0 ≡ get_or b k 0
+get_or-after values i b k room not_it =
+    elim (after-puts values i b room) [
       | inl same ↦ ap (λ (c : List ℕ). get_or c k 0) same
       | inr puts ↦ ap (λ (c : List ℕ). get_or c k 0) puts.is ∙ stays puts (cases_lt k (span_of i).at) (cases_lt k (end_of (span_of i)))
     ]
   where
-    stays : (puts : Puts (span_of i) b (wrote values i b)) → (k < (span_of i).at) ⊎ ((span_of i).at ≤ k) → (k < end_of (span_of i)) ⊎ (end_of (span_of i) ≤ k)
+    stays : (puts : Puts (span_of i) b (after values i b)) → (k < (span_of i).at) ⊎ ((span_of i).at ≤ k) → (k < end_of (span_of i)) ⊎ (end_of (span_of i) ≤ k)
         → get_or (put (span_of i).at puts.new b) k 0 ≡ get_or b k 0
     stays puts (inl before) high = get_or-put_before (span_of i).at puts.new b k 0 (omega (arith, puts.long)) before
     stays puts (inr above) (inl below) = absurd (false≢true (sym not_it ∙ and_from (nat_le (span_of i).at k) (nat_lt k (end_of (span_of i))) (le-leb (span_of i).at k above) (lt-ltb k (end_of (span_of i)) below)))
     stays puts (inr above) (inr behind) = get_or-put_after (span_of i).at puts.new b k 0 (omega (arith, puts.long)) (omega (arith, puts.long))
 
 -- instructions keep the bytes' number
-pub length-applied : (values : List VarValue) (instrs : List Instr) (b : List ℕ) (n : ℕ) → AllByRecursion (λ i. end_of (span_of i) ≤ n) instrs → n ≤ length b
-    → length (applied values instrs b) ≡ length b
-length-applied values [] b n places room = refl
-length-applied values (i ∷ rest) b n places room =
+pub length-after_all : (values : List VarValue) (instrs : List Instr) (b : List ℕ) (n : ℕ) → AllByRecursion (λ i. end_of (span_of i) ≤ n) instrs → n ≤ length b
+    → length (after_all values instrs b) ≡ length b
+length-after_all values [] b n places room = refl
+length-after_all values (i ∷ rest) b n places room =
     let here : end_of (span_of i) ≤ length b = omega (arith, places.0) in
-    length-applied values rest (wrote values i b) n places.1 (omega (arith, length-wrote values i b here)) ∙ length-wrote values i b here
+    length-after_all values rest (after values i b) n places.1 (omega (arith, length-after values i b here)) ∙ length-after values i b here
 
 -- a byte that no instruction writes stays
-pub get_or-applied : (values : List VarValue) (instrs : List Instr) (b : List ℕ) (n k : ℕ) → AllByRecursion (λ i. end_of (span_of i) ≤ n) instrs → n ≤ length b
-    → AllByRecursion (λ i. writes_byte i k ≡ false) instrs → get_or (applied values instrs b) k 0 ≡ get_or b k 0
-get_or-applied values [] b n k places room none = refl
-get_or-applied values (i ∷ rest) b n k places room none =
+pub get_or-after_all : (values : List VarValue) (instrs : List Instr) (b : List ℕ) (n k : ℕ) → AllByRecursion (λ i. end_of (span_of i) ≤ n) instrs → n ≤ length b
+    → AllByRecursion (λ i. writes_byte i k ≡ false) instrs → get_or (after_all values instrs b) k 0 ≡ get_or b k 0
+get_or-after_all values [] b n k places room none = refl
+get_or-after_all values (i ∷ rest) b n k places room none =
     let here : end_of (span_of i) ≤ length b = omega (arith, places.0) in
-    get_or-applied values rest (wrote values i b) n k places.1 (omega (arith, length-wrote values i b here)) none.1 ∙ get_or-wrote values i b k here none.0
+    get_or-after_all values rest (after values i b) n k places.1 (omega (arith, length-after values i b here)) none.1 ∙ get_or-after values i b k here none.0
 
-pub applied-append : (values : List VarValue) (xs ys : List Instr) (b : List ℕ) → applied values (xs ++ ys) b ≡ applied values ys (applied values xs b)
-applied-append values [] ys b = refl
-applied-append values (x ∷ xs) ys b = applied-append values xs ys (wrote values x b)
+pub after_all-append : (values : List VarValue) (xs ys : List Instr) (b : List ℕ) → after_all values (xs ++ ys) b ≡ after_all values ys (after_all values xs b)
+after_all-append values [] ys b = refl
+after_all-append values (x ∷ xs) ys b = after_all-append values xs ys (after values x b)
 
 -- bytes in which the header that a fix names has one first byte and one protocol
 abbrev pub SameKind : Fix → List ℕ → List ℕ → Type 0
@@ -232,9 +232,9 @@ place-within i b limit = by_effect (write_of i) (fix_of i)
 
 -- a segment verifies after its fix, whether it fits or not
 segment-verifies : (kind : L4Kind) (ip header : ℕ) (b : List ℕ) (t : Bool) → 20 ≤ header → t ≡ segment_fits kind ip header b
-    → FixVerifies (Segment ip header kind) (cond t (summed (written_sum kind) (segment_at kind ip header) (ip + header + sum_place kind) b) b)
+    → FixVerifies (Segment ip header kind) (cond t (with_checksum (written_sum kind) (segment_at kind ip header) (ip + header + sum_place kind) b) b)
 segment-verifies kind ip header b true long fits =
-    λ _. summed-verifies (written_sum kind) (segment_at kind ip header) (ip + header + sum_place kind) b (Completes-written_sum kind)
+    λ _. with_checksum-verifies (written_sum kind) (segment_at kind ip header) (ip + header + sum_place kind) b (Completes-written_sum kind)
     (HoldsField-segment_at kind ip header b long (sym fits))
 segment-verifies kind ip header b false long fits = λ now. absurd (false≢true (fits ∙ now))
 
@@ -242,7 +242,7 @@ segment-verifies kind ip header b false long fits = λ now. absurd (false≢true
 fixed-verifies : (fix : Fix) (b : List ℕ) → finds_header b (length b) fix ≡ true → FixVerifies fix (fixed fix b)
 fixed-verifies (Header at) b found =
     let has = has_ipv4-tells b (length b) at found in
-    summed-verifies (λ n. n) (header_at at) (at + 10) b Completes-plain (HoldsField-header_at at b has.long has.within)
+    with_checksum-verifies (λ n. n) (header_at at) (at + 10) b Completes-plain (HoldsField-header_at at b has.long has.within)
 fixed-verifies (Segment ip header kind) b found =
     segment-verifies kind ip header b (segment_fits kind ip header b) (finds_segment b (length b) ip header kind found).1.long refl
 
@@ -251,10 +251,10 @@ maybe_fixed-verifies : (fix : Option Fix) (b : List ℕ) → option_map_or (λ i
 maybe_fixed-verifies None b found = tt
 maybe_fixed-verifies (Some fix) b found = fixed-verifies fix b (not-false (finds_header b (length b) fix) found)
 
-pub wrote-verifies : (values : List VarValue) (i : Instr) (b : List ℕ) → misses_header b (length b) i ≡ false → HeaderVerifies i (wrote values i b)
-wrote-verifies values (Write from at add big) b found = tt
-wrote-verifies values (WriteMask from at cast mask shift add big) b found = tt
-wrote-verifies values i b found = maybe_fixed-verifies (fix_of i) b found
+pub after-verifies : (values : List VarValue) (i : Instr) (b : List ℕ) → misses_header b (length b) i ≡ false → HeaderVerifies i (after values i b)
+after-verifies values (Write from at add big) b found = tt
+after-verifies values (WriteMask from at cast mask shift add big) b found = tt
+after-verifies values i b found = maybe_fixed-verifies (fix_of i) b found
 
 header_at-same : (at : ℕ) (b c : List ℕ) → length b ≡ length c → get_or b at 0 ≡ get_or c at 0
     → ((k : ℕ) → IsWithin at (header_length c at) k → get_or b k 0 ≡ get_or c k 0) → header_at at b ≡ header_at at c

@@ -1,28 +1,13 @@
--- Which bytes an instruction writes, which bytes a checksum covers, and when a fixed header verifies. Own.
-use Rattle.std.specs.Prelude.{◌≡◌, ℕ, ◌+◌, ◌<◌, ◌≤◌, ◌⊎◌, Bool, ◌&&◌, nat_le, nat_lt, List, IsTrue, IsFalse, All, Option, Some, None, IfSome, IsSomeAnd}
+-- Which bytes a checksum covers, and when a fixed header verifies. Own.
+use Rattle.std.specs.Prelude.{◌≡◌, ℕ, ◌+◌, ◌<◌, ◌≤◌, ◌⊎◌, List, IsTrue, IsFalse, All, IfSome, IsSomeAnd}
 use Rattle.trex_sum.specs.Checksum.{sum_of, Verifies}
 use Rattle.trex_vm.specs.declared.effect.Fix.{Fix}
 use Rattle.trex_vm.specs.declared.effect.Fix.TheVariants.{Header, Segment}
-use Rattle.trex_vm.specs.declared.effect.Span.{Span}
 use Rattle.trex_vm.specs.declared.instr.Instr.{Instr}
 use Rattle.trex_vm.specs.declared.instr.L4Kind.{L4Kind}
 use Rattle.trex_vm.specs.declared.instr.L4Kind.TheVariants.{Tcp, Udp}
-use Rattle.trex_vm.specs.Effect.{end_of, write_of, fix_of}
-use Rattle.trex_vm.specs.Fix.{field_of, header_length, header_at, segment_length, segment_fits, segment_at}
-
--- the bytes that are changed: those of a write, or the field of a fix, or none
-abbrev pub changed : Option Span → Option Fix → Span
-changed (Some span) fix = span
-changed None (Some fix) = field_of fix
-changed None None = record { at = 0; size = 0 }
-
--- the bytes that an instruction changes
-abbrev pub span_of : Instr → Span
-span_of instr = changed (write_of instr) (fix_of instr)
-
--- the instruction writes byte k
-abbrev pub writes_byte : Instr → ℕ → Bool
-writes_byte instr k = nat_le (span_of instr).at k && nat_lt k (end_of (span_of instr))
+use Rattle.trex_vm.specs.Effect.{fix_of, writes_byte}
+use Rattle.trex_vm.specs.Fix.{header_length, header_at, segment_length, segment_fits, segment_at}
 
 -- byte k is one of the `size` bytes from `at` on
 abbrev pub IsWithin : ℕ → ℕ → ℕ → Type 0

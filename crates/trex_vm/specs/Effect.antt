@@ -1,11 +1,12 @@
 -- What an instruction does to a packet, by three projections: each kind of instruction writes a number, fixes a checksum or cuts the packet. Own.
-use Rattle.std.specs.Prelude.{ℕ, ◌+◌, Option, Some, None}
+use Rattle.std.specs.Prelude.{ℕ, ◌+◌, Bool, ◌&&◌, nat_le, nat_lt, Option, Some, None}
 use Rattle.trex_vm.specs.declared.effect.Fix.{Fix}
 use Rattle.trex_vm.specs.declared.effect.Fix.TheVariants.{Header, Segment}
 use Rattle.trex_vm.specs.declared.effect.Span.{Span}
 use Rattle.trex_vm.specs.declared.instr.Instr.{Instr}
 use Rattle.trex_vm.specs.declared.instr.Instr.TheVariants.{Write, WriteMask, FixIpv4, FixL4, Trim}
 use Rattle.trex_vm.specs.declared.instr.Operand.{Operand}
+use Rattle.trex_vm.specs.Fix.{field_of}
 
 -- the first byte behind some bytes
 abbrev pub end_of : Span → ℕ
@@ -33,3 +34,17 @@ abbrev pub operand_of : Instr → Option Operand
 operand_of (Write from at add big) = Some from
 operand_of (WriteMask from at cast mask shift add big) = Some from
 operand_of instr = trim_of instr
+
+-- the bytes that a write or a fix changes: those of the write, or the field of the fix, or none
+abbrev pub changed : Option Span → Option Fix → Span
+changed (Some span) fix = span
+changed None (Some fix) = field_of fix
+changed None None = record { at = 0; size = 0 }
+
+-- the bytes that an instruction changes
+abbrev pub span_of : Instr → Span
+span_of instr = changed (write_of instr) (fix_of instr)
+
+-- the instruction writes byte k
+abbrev pub writes_byte : Instr → ℕ → Bool
+writes_byte instr k = nat_le (span_of instr).at k && nat_lt k (end_of (span_of instr))

@@ -12,8 +12,8 @@ use Rattle.trex_vm.specs.declared.instr.L4Kind.TheVariants.{Tcp, Udp}
 
 -- the bytes with the checksum of a part of them at `field`: the field is set to zero, the part is summed from scratch,
 -- and the complement of the fold is written there as `written` says (RFC 1071, section 1)
-unfoldable pub summed : (ℕ → ℕ) → (List ℕ → List ℕ) → ℕ → List ℕ → List ℕ
-summed written part field bytes =
+unfoldable pub with_checksum : (ℕ → ℕ) → (List ℕ → List ℕ) → ℕ → List ℕ → List ℕ
+with_checksum written part field bytes =
     let zeroed = put field (0 ∷ 0 ∷ []) bytes in
     put field (big_bytes 2 (written (65535 - fold_of (sum_of (part zeroed))))) zeroed
 
@@ -27,7 +27,7 @@ header_at at bytes = slice_range bytes at (at + header_length bytes at)
 
 -- the bytes with the IPv4 header at a place fixed (RFC 791, section 3.1)
 abbrev pub fixed_ipv4 : ℕ → List ℕ → List ℕ
-fixed_ipv4 at bytes = summed (λ n. n) (header_at at) (at + 10) bytes
+fixed_ipv4 at bytes = with_checksum (λ n. n) (header_at at) (at + 10) bytes
 
 -- the protocol number in the IPv4 header (RFC 790)
 abbrev pub protocol_of : L4Kind → ℕ
@@ -74,7 +74,7 @@ segment_at kind ip header bytes =
 abbrev pub fixed_l4 : L4Kind → ℕ → ℕ → List ℕ → List ℕ
 fixed_l4 kind ip header bytes =
     if segment_fits kind ip header bytes
-    then summed (written_sum kind) (segment_at kind ip header) (ip + header + sum_place kind) bytes
+    then with_checksum (written_sum kind) (segment_at kind ip header) (ip + header + sum_place kind) bytes
     else bytes
 
 -- the field of the checksum that a fix writes

@@ -1,5 +1,5 @@
-pub mod Effect
 pub mod Fix
+pub mod Effect
 pub mod Write
 pub mod Packet
 pub mod Cover

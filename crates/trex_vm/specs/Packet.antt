@@ -10,18 +10,18 @@ use Rattle.trex_vm.specs.declared.instr.Instr.{Instr}
 use Rattle.trex_vm.specs.declared.instr.Instr.TheVariants.{Write, WriteMask}
 use Rattle.trex_vm.specs.Effect.{fix_of, trim_of}
 use Rattle.trex_vm.specs.Fix.{fixed}
-use Rattle.trex_vm.specs.Write.{number_in, sum_in, shifted, written, written_mask}
+use Rattle.trex_vm.specs.Write.{number_in, sum_in, shifted, with_number, with_masked_number}
 
--- the bytes after one instruction: a trim has acted before
-abbrev pub wrote : List VarValue → Instr → List ℕ → List ℕ
-wrote values (Write from at add big) bytes = written big from.size at (sum_in values from add) bytes
-wrote values (WriteMask from at cast mask shift add big) bytes = written_mask big cast at mask (shifted shift (sum_in values from add)) bytes
-wrote values instr bytes = option_map_or (λ fix. fixed fix bytes) (fix_of instr) bytes
+-- the bytes after one instruction. A trim changes none: the template was cut before
+abbrev pub after : List VarValue → Instr → List ℕ → List ℕ
+after values (Write from at add big) bytes = with_number big from.size at (sum_in values from add) bytes
+after values (WriteMask from at cast mask shift add big) bytes = with_masked_number big cast at mask (shifted shift (sum_in values from add)) bytes
+after values instr bytes = option_map_or (λ fix. fixed fix bytes) (fix_of instr) bytes
 
 -- the bytes after the instructions, one after another
-abbrev pub applied : List VarValue → List Instr → List ℕ → List ℕ
-applied values [] bytes = bytes
-applied values (instr ∷ rest) bytes = applied values rest (wrote values instr bytes)
+abbrev pub after_all : List VarValue → List Instr → List ℕ → List ℕ
+after_all values [] bytes = bytes
+after_all values (instr ∷ rest) bytes = after_all values rest (after values instr bytes)
 
 -- the packet's length: the number of the trim, or the whole template's length where there is none
 abbrev pub trimmed : List VarValue → List Instr → ℕ → ℕ
@@ -34,9 +34,9 @@ stamped None bytes = bytes
 stamped (Some s) bytes = put (length bytes - STAMP_SIZE) (stamp_bytes s) bytes
 
 -- the packet before its instructions: the template, cut to its length, and stamped
-abbrev pub front : List Instr → List VarValue → Option Stamp → List ℕ → List ℕ
-front instrs values stamp template = stamped stamp (take (trimmed values instrs (length template)) template)
+abbrev pub stamped_template : List Instr → List VarValue → Option Stamp → List ℕ → List ℕ
+stamped_template instrs values stamp template = stamped stamp (take (trimmed values instrs (length template)) template)
 
--- the packet: its front after all instructions
+-- the packet: the stamped template after all instructions
 abbrev pub packet : List Instr → List VarValue → Option Stamp → List ℕ → List ℕ
-packet instrs values stamp template = applied values instrs (front instrs values stamp template)
+packet instrs values stamp template = after_all values instrs (stamped_template instrs values stamp template)

@@ -11,22 +11,22 @@ use Rattle.trex_vm.specs.declared.instr.Instr.{Instr}
 use Rattle.trex_vm.specs.declared.instr.Instr.TheVariants.{Write, WriteMask}
 use Rattle.trex_vm.specs.Effect.{operand_of}
 use Rattle.trex_vm.specs.Packet.{trimmed}
-use Rattle.trex_vm.specs.Rules.{least_length, room_of, is_trim, writes_past, misses_header, touches_shape}
+use Rattle.trex_vm.specs.Rules.{least_length, room_of, is_trim, writes_past, misses_header, overwrites_header_kind}
 
--- a program: its instructions, its template's length, its least packet length, and whether it stamps
-pub record Plan : Type 0 where
+-- what contracts see of a program: its instructions, its template's length, its least packet length, and whether it stamps
+pub record ProgramView : Type 0 where
   pub instrs : List Instr
   pub template : ℕ
   pub least : ℕ
   pub stamps : Bool
 
--- the program of some instructions and their variables for a template
-abbrev pub plan_of : List Instr → List Variable → List ℕ → Bool → Plan
-plan_of instrs vars template stamps =
+-- the program of some instructions over some variables for a template, whose packets are stamped or not
+abbrev pub program_view : List Instr → List Variable → List ℕ → Bool → ProgramView
+program_view instrs vars template stamps =
     record { instrs = instrs; template = length template; least = least_length vars instrs (length template); stamps = stamps }
 
 -- the bytes of the shortest packet in front of its latency header
-abbrev pub room : Plan → ℕ
+abbrev pub room : ProgramView → ℕ
 room p = room_of p.least p.stamps
 
 -- the operand's variable is one of so many
@@ -49,7 +49,7 @@ abbrev pub AreSound : List Variable → Type 0
 AreSound vars = All (λ variable. fault_of variable ≡ None) vars
 
 -- what holds of every program
-pub record IsProgram (p : Plan) : Type 0 where
+pub record IsProgram (p : ProgramView) : Type 0 where
   pub long : SHORTEST_PACKET ≤ p.least
   pub stamp : IsTrue p.stamps → SHORTEST_STAMPED ≤ p.least
   pub cut : p.least ≤ p.template
@@ -57,16 +57,16 @@ pub record IsProgram (p : Plan) : Type 0 where
   pub trims : count_by is_trim p.instrs ≤ 1
   pub formed : All IsFormed p.instrs
   pub places : list_any (writes_past (room p)) p.instrs ≡ false
-  pub shape : list_any (touches_shape p.instrs) p.instrs ≡ false
+  pub kinds : list_any (overwrites_header_kind p.instrs) p.instrs ≡ false
 
 -- the program is meant for the template: its length, and the headers that the program fixes
-pub record IsTemplateOf (p : Plan) (template : List ℕ) : Type 0 where
+pub record IsTemplateOf (p : ProgramView) (template : List ℕ) : Type 0 where
   pub long : length template ≡ p.template
   pub headers : list_any (misses_header template (room p)) p.instrs ≡ false
 
 -- the values are values of the program's variables: each operand's is there, and a trim's number lies from the least packet length to the
 -- template's length
-pub record AreValuesOf (p : Plan) (values : List VarValue) : Type 0 where
+pub record AreValuesOf (p : ProgramView) (values : List VarValue) : Type 0 where
   pub operands : All (TakesFrom (length values)) p.instrs
   pub least : p.least ≤ trimmed values p.instrs p.template
   pub most : trimmed values p.instrs p.template ≤ p.template

@@ -10,11 +10,10 @@ use Rattle.trex_vm.specs.declared.effect.Fix.{Fix}
 use Rattle.trex_vm.specs.declared.effect.Fix.TheVariants.{Header, Segment}
 use Rattle.trex_vm.specs.declared.instr.Instr.{Instr}
 use Rattle.trex_vm.specs.declared.instr.Operand.{Operand}
-use Rattle.trex_vm.specs.Effect.{end_of, write_of, fix_of, trim_of}
+use Rattle.trex_vm.specs.Effect.{end_of, write_of, fix_of, trim_of, writes_byte}
 use Rattle.trex_vm.specs.Fix.{header_length, header_of, least_segment, protocol_of}
 use Rattle.trex_vm.specs.Write.{number_in}
 use Rattle.trex_vm.specs.Packet.{trimmed}
-use Rattle.trex_vm.specs.Cover.{writes_byte}
 
 -- the length of the shortest packet: the least number of the trim, or the whole template's length where there is none
 abbrev pub least_length : List Variable → List Instr → ℕ → ℕ
@@ -58,16 +57,16 @@ abbrev pub misses_header : List ℕ → ℕ → Instr → Bool
 misses_header bytes room instr = option_map_or (λ fix. not (finds_header bytes room fix)) (fix_of instr) false
 
 -- the instruction writes byte 0 or byte 9 of the header that a fix names: its version and length, or its protocol
-abbrev pub touches : Instr → Fix → Bool
-touches instr fix = writes_byte instr (header_of fix) || writes_byte instr (header_of fix + 9)
+abbrev pub overwrites_kind : Instr → Fix → Bool
+overwrites_kind instr fix = writes_byte instr (header_of fix) || writes_byte instr (header_of fix + 9)
 
--- the same of the header that another instruction names, where that is a fix
-abbrev pub touches_header_of : Instr → Instr → Bool
-touches_header_of instr other = option_map_or (touches instr) (fix_of other) false
+-- the instruction writes byte 0 or byte 9 of the header that another one names, where that is a fix
+abbrev pub overwrites_kind_of : Instr → Instr → Bool
+overwrites_kind_of instr other = option_map_or (overwrites_kind instr) (fix_of other) false
 
--- the same of a header that a fix of the list names
-abbrev pub touches_shape : List Instr → Instr → Bool
-touches_shape instrs instr = list_any (touches_header_of instr) instrs
+-- the instruction writes byte 0 or byte 9 of a header that a fix of the list names
+abbrev pub overwrites_header_kind : List Instr → Instr → Bool
+overwrites_header_kind instrs instr = list_any (overwrites_kind_of instr) instrs
 
 -- a program is accepted: at most one trim, and that in its range, a stamped packet not shorter than the shortest, and no instruction that breaks a rule
 abbrev pub accepts : List Variable → List ℕ → Bool → List Instr → Bool
@@ -76,4 +75,4 @@ accepts vars template stamped instrs =
     let room = room_of shortest stamped in
     nat_le (count_by is_trim instrs) 1 && not (list_any (trim_wrong vars (length template)) instrs) && not (stamped && nat_lt shortest SHORTEST_STAMPED)
     && not (list_any (writes_past room) instrs) && not (list_any (misses_header template room) instrs)
-    && not (list_any (touches_shape instrs) instrs)
+    && not (list_any (overwrites_header_kind instrs) instrs)

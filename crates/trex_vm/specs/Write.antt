@@ -44,9 +44,9 @@ abbrev pub masked : ℕ → ℕ → ℕ → ℕ
 masked mask new old = bit_or (bit_and old (bit_not w64 mask)) (bit_and new mask)
 
 -- the bytes with a number written over some of them
-abbrev pub written : Bool → ℕ → ℕ → ℕ → List ℕ → List ℕ
-written big size at n bytes = put at (bytes_in big size n) bytes
+abbrev pub with_number : Bool → ℕ → ℕ → ℕ → List ℕ → List ℕ
+with_number big size at n bytes = put at (bytes_in big size n) bytes
 
 -- the bytes with a number written over some of them where the mask has ones
-abbrev pub written_mask : Bool → ℕ → ℕ → ℕ → ℕ → List ℕ → List ℕ
-written_mask big size at mask n bytes = written big size at (masked mask n (number_at big size at bytes)) bytes
+abbrev pub with_masked_number : Bool → ℕ → ℕ → ℕ → ℕ → List ℕ → List ℕ
+with_masked_number big size at mask n bytes = with_number big size at (masked mask n (number_at big size at bytes)) bytes

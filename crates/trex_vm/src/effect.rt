@@ -2,9 +2,8 @@
 // Whatever else is said of an instruction rests on these.
 
 ghost use Rattle.std.specs.Prelude.{◌≡◌, ◌^◌, ◌<◌, IfSome};
-ghost use Rattle.trex_vm.specs.Effect.{write_of, fix_of, trim_of};
+ghost use Rattle.trex_vm.specs.Effect.{write_of, fix_of, trim_of, span_of};
 ghost use Rattle.trex_vm.specs.Fix.{field_of, header_of};
-ghost use Rattle.trex_vm.specs.Cover.{span_of};
 
 use crate::fix::{HEADER_SUM, sum_place};
 use crate::instr::{Instr, L4Kind, Operand};
@@ -20,7 +19,9 @@ pub(crate) struct Span {
 #[derive(Clone, Copy)]
 pub(crate) enum Fix {
     /// The IPv4 header at a place.
-    Header { at: usize },
+    Header {
+        at: usize,
+    },
     /// The segment behind the IPv4 header of `header` bytes at `ip`, with its pseudo header.
     Segment {
         ip: usize,

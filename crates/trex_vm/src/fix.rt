@@ -3,24 +3,27 @@
 ghost use Rattle.std.specs.Prelude.{◌≡◌, ◌+◌, ◌*◌, ◌%◌, ◌<◌, ◌≤◌, ◌++◌, IsTrue, length};
 ghost use Rattle.std.specs.List.{slice_range};
 ghost use Rattle.trex_sum.specs.Checksum.{sum_of};
-ghost use Rattle.trex_vm.specs.Fix.{header_length, fixed_ipv4, fixed_l4, protocol_of, least_segment, sum_place, written_sum, segment_length, segment_fits, segment_at, pseudo_header, summed};
+ghost use Rattle.trex_vm.specs.Fix.{header_length, fixed_ipv4, fixed_l4, protocol_of, least_segment, sum_place, written_sum, segment_length, segment_fits, segment_at, pseudo_header, with_checksum};
 
 use crate::instr::L4Kind;
 use trex_fields::{read_be, write_be};
 use trex_sum::{fold, sum_words};
 
-// offsets in an IPv4 header (RFC 791, section 3.1)
+/// The offset of the total length in an IPv4 header (RFC 791, section 3.1).
 const TOTAL_LENGTH: usize = 2;
 
+/// The offset of the protocol in an IPv4 header (RFC 791, section 3.1).
 pub(crate) const PROTOCOL: usize = 9;
 
+/// The offset of the checksum in an IPv4 header (RFC 791, section 3.1).
 pub(crate) const HEADER_SUM: usize = 10;
 
+/// The offset of the two addresses in an IPv4 header, and of what follows them (RFC 791, section 3.1).
 const ADDRESSES: usize = 12;
 
 const ADDRESSES_END: usize = 20;
 
-// the offset in a UDP header (RFC 768)
+/// The offset of the length in a UDP header (RFC 768).
 const UDP_LENGTH: usize = 4;
 
 const ALL_ONES: u16 = 0xffff;
@@ -44,6 +47,7 @@ pub(crate) fn fix_ipv4(packet: &mut [u8], at: usize)
     write_be::<2>(packet, at + HEADER_SUM, u64::from(ALL_ONES - fold(sum)));
 }
 
+/// The protocol number of a kind of segment (RFC 790).
 pub(crate) fn protocol_of(kind: L4Kind) -> u8
     ensures { result ≡ protocol_of kind }
 {
@@ -53,6 +57,7 @@ pub(crate) fn protocol_of(kind: L4Kind) -> u8
     }
 }
 
+/// The least bytes of a segment: TCP's header without options (RFC 793, section 3.1), UDP's header (RFC 768).
 pub(crate) fn least_segment(kind: L4Kind) -> usize
     ensures { result ≡ least_segment kind }
 {
@@ -62,6 +67,7 @@ pub(crate) fn least_segment(kind: L4Kind) -> usize
     }
 }
 
+/// The place of the checksum in a segment (RFC 793, section 3.1; RFC 768).
 pub(crate) fn sum_place(kind: L4Kind) -> usize
     ensures value { result ≡ sum_place kind }
     ensures small { result + 2 ≤ least_segment kind }
@@ -72,7 +78,7 @@ pub(crate) fn sum_place(kind: L4Kind) -> usize
     }
 }
 
-// a UDP checksum of zero stands for none, so all ones are written in its place (RFC 768)
+/// The checksum as it is written: a UDP checksum of zero stands for none, so all ones are written in its place (RFC 768).
 fn written_sum(kind: L4Kind, sum: u16) -> u16
     ensures { result ≡ written_sum kind sum }
 {
@@ -82,7 +88,7 @@ fn written_sum(kind: L4Kind, sum: u16) -> u16
     }
 }
 
-// the segment's length, as its headers say
+/// The segment's length, as its headers say.
 fn length_of_segment(packet: &[u8], kind: L4Kind, ip: usize, header: usize) -> usize
     requires long { 20 ≤ header }
     requires room { ip + header + least_segment kind ≤ length packet.now }
@@ -95,7 +101,7 @@ fn length_of_segment(packet: &[u8], kind: L4Kind, ip: usize, header: usize) -> u
     }
 }
 
-// the sum of the pseudo header of the IPv4 header at `ip`, and of the segment of `len` bytes from `at` on
+/// The sum of the pseudo header of the IPv4 header at `ip`, and of the segment of `len` bytes from `at` on.
 fn segment_sum(packet: &[u8], ip: usize, at: usize, len: usize) -> u64
     requires header { ip + 20 ≤ at }
     requires room { at + len ≤ length packet.now }
@@ -107,13 +113,13 @@ fn segment_sum(packet: &[u8], ip: usize, at: usize, len: usize) -> u64
     addresses + protocol + len as u64 + sum_words(&packet[at..at + len])
 }
 
-// writes the checksum of a segment that fits
+/// Writes the checksum of a segment that fits.
 fn write_segment_sum(packet: &mut [u8], kind: L4Kind, ip: usize, header: usize, len: usize)
     requires long { 20 ≤ header }
     requires fits { IsTrue (segment_fits kind ip header packet.old) }
     requires len { len ≡ segment_length kind ip header packet.old }
     requires short { len < 65536 }
-    ensures { packet.new ≡ summed (written_sum kind) (segment_at kind ip header) (ip + header + sum_place kind) packet.old }
+    ensures { packet.new ≡ with_checksum (written_sum kind) (segment_at kind ip header) (ip + header + sum_place kind) packet.old }
 {
     let at = ip + header;
     let field = at + sum_place(kind);

@@ -1,3 +1,5 @@
+// Instructions of the field engine, and what they take from the variables.
+
 /// The part of a variable's value that an instruction takes.
 #[derive(Clone, Copy, PartialEq, Eq, Debug, Drop)]
 pub enum Part {

@@ -8,7 +8,7 @@ ghost use Rattle.trex_stamp.specs.declared.header.Stamp.{Stamp as AStamp};
 ghost use Rattle.trex_stamp.specs.Stamp.{stamp_bytes};
 ghost use Rattle.trex_vm.specs.Packet.{packet};
 ghost use Rattle.trex_vm.specs.Rules.{accepts};
-ghost use Rattle.trex_vm.specs.Program.{AreOperandsOf, AreSound, AreValuesOf, IsTemplateOf, plan_of};
+ghost use Rattle.trex_vm.specs.Program.{AreOperandsOf, AreSound, AreValuesOf, IsTemplateOf, program_view};
 
 use trex_layers::{LONGEST_PACKET, SHORTEST_PACKET};
 use trex_vars::values_lie_between;
@@ -16,10 +16,10 @@ use trex_vars::values_lie_between;
 /// A program that is accepted is meant for its template, and for the values of its variables at each packet number.
 pub fn programs_fit()
     ensures template { (instrs : List AnInstr) (vars : List Variable) (template : List ℕ) (stamped : Bool)
-        → accepts vars template stamped instrs ≡ true → IsTemplateOf (plan_of instrs vars template stamped) template }
+        → accepts vars template stamped instrs ≡ true → IsTemplateOf (program_view instrs vars template stamped) template }
     ensures values { (instrs : List AnInstr) (vars : List Variable) (template : List ℕ) (stamped : Bool) (n : ℕ)
         → AreOperandsOf vars instrs → AreSound vars → accepts vars template stamped instrs ≡ true
-        → AreValuesOf (plan_of instrs vars template stamped) (map (λ v. value_at v n) vars) }
+        → AreValuesOf (program_view instrs vars template stamped) (map (λ v. value_at v n) vars) }
     // A packet is no longer than its template.
     ensures short { (instrs : List AnInstr) (vars : List Variable) (template : List ℕ) (stamp : Option AStamp) (n : ℕ)
         → AreOperandsOf vars instrs → AreSound vars → accepts vars template (is_some stamp) instrs ≡ true

@@ -1,4 +1,4 @@
-// The field engine: programs that write variables, checksums and latency headers into packets.
+//! The field engine: programs that write variables, checksums and latency headers into packets.
 #![tactic(auto)]
 
 mod effect;
@@ -16,6 +16,6 @@ pub use instr::{Instr, L4Kind, Operand, Part};
 pub use laws::programs_fit;
 pub use program::Program;
 pub use rules::{
-    is_trim, least_length, misses_header, room_of, touches_shape, trim_wrong, writes_past,
+    is_trim, least_length, misses_header, overwrites_header_kind, room_of, trim_wrong, writes_past,
 };
 pub use run::run_plain;

@@ -3,7 +3,7 @@
 ghost use Rattle.std.specs.Prelude.{◌≡◌, ◌≤◌, true, is_some, IfSome, length, map};
 ghost use Rattle.trex_vars.specs.Variable.{variable_of};
 ghost use Rattle.trex_vm.specs.Rules.{accepts};
-ghost use Rattle.trex_vm.specs.Program.{AreOperandsOf, AreSound, IsProgram, plan_of};
+ghost use Rattle.trex_vm.specs.Program.{AreOperandsOf, AreSound, IsProgram, program_view};
 
 use crate::instr::Instr;
 use crate::laws::programs_fit;
@@ -22,9 +22,9 @@ pub struct Program {
 }
 
 impl Model for Program {
-    ghost use Rattle.trex_vm.specs.Program.{Plan, IsProgram};
+    ghost use Rattle.trex_vm.specs.Program.{ProgramView, IsProgram};
 
-    ghost Value = { Plan };
+    ghost Value = { ProgramView };
 
     ghost view = { λ p. record { instrs = p.instrs.items; template = p.template; least = p.least; stamps = p.stamps } };
 
@@ -49,7 +49,7 @@ impl Program {
         requires operands { AreOperandsOf (map variable_of vars.now) instrs.items }
         requires sound { AreSound (map variable_of vars.now) }
         ensures accepts { is_some result ≡ accepts (map variable_of vars.now) template.now stamped instrs.items }
-        ensures plan { IfSome result (λ p. p ≡ plan_of instrs.items (map variable_of vars.now) template.now stamped) }
+        ensures plan { IfSome result (λ p. p ≡ program_view instrs.items (map variable_of vars.now) template.now stamped) }
     {
         if !accepts(vars, template, stamped, &instrs) {
             return None;
@@ -69,7 +69,7 @@ impl Program {
         requires operands { AreOperandsOf (map variable_of vars.now) instrs.items }
         requires sound { AreSound (map variable_of vars.now) }
         requires accepted { accepts (map variable_of vars.now) template.now stamped instrs.items ≡ true }
-        ensures { result ≡ plan_of instrs.items (map variable_of vars.now) template.now stamped }
+        ensures { result ≡ program_view instrs.items (map variable_of vars.now) template.now stamped }
     {
         // the law bounds the least length by the template's
         programs_fit();

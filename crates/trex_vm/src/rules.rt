@@ -5,8 +5,8 @@ ghost use Rattle.std.specs.List.{list_any};
 ghost use Rattle.trex_vars.specs.Variable.{variable_of};
 ghost use Rattle.trex_vars.specs.Bounds.{least, greatest};
 ghost use Rattle.trex_vm.specs.Write.{number_in};
-ghost use Rattle.trex_vm.specs.Cover.{writes_byte};
-ghost use Rattle.trex_vm.specs.Rules.{least_length, room_of, is_trim, trim_wrong, writes_past, has_ipv4, finds_header, misses_header, touches, touches_header_of, touches_shape, accepts};
+ghost use Rattle.trex_vm.specs.Effect.{writes_byte};
+ghost use Rattle.trex_vm.specs.Rules.{least_length, room_of, is_trim, trim_wrong, writes_past, has_ipv4, finds_header, misses_header, overwrites_kind, overwrites_kind_of, overwrites_header_kind, accepts};
 ghost use Rattle.trex_vm.specs.Program.{TakesFrom};
 
 use crate::effect::Fix;
@@ -21,7 +21,7 @@ const VERSION: u8 = 4;
 
 const LEAST_HEADER: usize = 20;
 
-/// The least number that an operand takes
+/// The least number that an operand takes.
 fn least_in(vars: &[VarSpec], from: Operand) -> u64
     requires { from.var < length vars.now }
     ensures { result ≡ number_in (map least (map variable_of vars.now)) from }
@@ -29,7 +29,7 @@ fn least_in(vars: &[VarSpec], from: Operand) -> u64
     part_of(from.part, vars[from.var].least())
 }
 
-/// The greatest number that an operand takes
+/// The greatest number that an operand takes.
 fn greatest_in(vars: &[VarSpec], from: Operand) -> u64
     requires { from.var < length vars.now }
     ensures { result ≡ number_in (map greatest (map variable_of vars.now)) from }
@@ -75,7 +75,8 @@ pub fn trim_wrong(vars: &[VarSpec], template: usize, instr: &Instr) -> bool
 {
     match instr.trim_of() {
         Some(from) => {
-            least_in(vars, from) < SHORTEST_PACKET as u64 || greatest_in(vars, from) > template as u64
+            least_in(vars, from) < SHORTEST_PACKET as u64
+                || greatest_in(vars, from) > template as u64
         }
         None => false,
     }
@@ -91,21 +92,21 @@ pub fn writes_past(room: usize, instr: &Instr) -> bool
     }
 }
 
-/// Whether so many bytes from a place on lie within a room
+/// Whether so many bytes from a place on lie within a room.
 fn is_within(at: usize, size: usize, room: usize) -> bool
     ensures { result ≡ nat_le (at + size) room }
 {
     at <= room && size <= room - at
 }
 
-/// The byte at a place, or 0 past the last
+/// The byte at a place, or 0 past the last.
 fn byte_at(bytes: &[u8], at: usize) -> u8
     ensures { result ≡ slice_index bytes.now at }
 {
     bytes.get(at).copied().unwrap_or(0)
 }
 
-/// Whether an IPv4 header stands at a place
+/// Whether an IPv4 header stands at a place and ends within the room: version 4, at least 20 bytes (RFC 791, section 3.1).
 fn has_ipv4(bytes: &[u8], room: usize, at: usize) -> bool
     ensures { result ≡ has_ipv4 bytes.now room at }
 {
@@ -152,32 +153,32 @@ fn writes_byte(instr: &Instr, byte: u128) -> bool
 }
 
 /// Whether an instruction writes the first byte or the protocol of the header that a fix names.
-fn touches(instr: &Instr, fix: Fix) -> bool
-    ensures { result ≡ touches instr.now fix }
+fn overwrites_kind(instr: &Instr, fix: Fix) -> bool
+    ensures { result ≡ overwrites_kind instr.now fix }
 {
     let ip = fix.header() as u128;
     writes_byte(instr, ip) || writes_byte(instr, ip + PROTOCOL as u128)
 }
 
 /// Whether an instruction writes the first byte or the protocol of the header that another one names, where that is a fix.
-fn touches_header_of(instr: &Instr, other: &Instr) -> bool
-    ensures { result ≡ touches_header_of instr.now other.now }
+fn overwrites_kind_of(instr: &Instr, other: &Instr) -> bool
+    ensures { result ≡ overwrites_kind_of instr.now other.now }
 {
     match other.fix_of() {
-        Some(fix) => touches(instr, fix),
+        Some(fix) => overwrites_kind(instr, fix),
         None => false,
     }
 }
 
 /// Whether an instruction writes byte 0 or byte 9 of a header that a fix of the list names: its version and length, or its protocol. A fix
 /// writes its checksum field.
-pub fn touches_shape(instrs: &[Instr], instr: &Instr) -> bool
-    ensures { result ≡ touches_shape instrs.now instr.now }
+pub fn overwrites_header_kind(instrs: &[Instr], instr: &Instr) -> bool
+    ensures { result ≡ overwrites_header_kind instrs.now instr.now }
 {
-    instrs.iter().any(|other| touches_header_of(instr, other))
+    instrs.iter().any(|other| overwrites_kind_of(instr, other))
 }
 
-/// Whether a trim of the instructions is out of its range
+/// Whether a trim of the instructions is out of its range.
 fn any_trim_wrong(vars: &[VarSpec], template: usize, instrs: &[Instr]) -> bool
     requires { All (TakesFrom (length vars.now)) instrs.now }
     ensures { result ≡ list_any (trim_wrong (map variable_of vars.now) template) instrs.now }
@@ -190,18 +191,21 @@ fn any_trim_wrong(vars: &[VarSpec], template: usize, instrs: &[Instr]) -> bool
     false
 }
 
+/// How many trims there are.
 fn trims(instrs: &[Instr]) -> usize
     ensures { result ≡ count_by is_trim instrs.now }
 {
     instrs.iter().filter(|instr| is_trim(instr)).count()
 }
 
+/// Whether a write ends after the room.
 fn any_writes_past(room: usize, instrs: &[Instr]) -> bool
     ensures { result ≡ list_any (writes_past room) instrs.now }
 {
     instrs.iter().any(|instr| writes_past(room, instr))
 }
 
+/// Whether a fix has no header to fix.
 fn any_misses_header(template: &[u8], room: usize, instrs: &[Instr]) -> bool
     ensures { result ≡ list_any (misses_header template.now room) instrs.now }
 {
@@ -210,10 +214,13 @@ fn any_misses_header(template: &[u8], room: usize, instrs: &[Instr]) -> bool
         .any(|instr| misses_header(template, room, instr))
 }
 
-fn any_touches_shape(instrs: &[Instr]) -> bool
-    ensures { result ≡ list_any (touches_shape instrs.now) instrs.now }
+/// Whether an instruction writes byte 0 or byte 9 of a header that a fix names.
+fn any_overwrites_header_kind(instrs: &[Instr]) -> bool
+    ensures { result ≡ list_any (overwrites_header_kind instrs.now) instrs.now }
 {
-    instrs.iter().any(|instr| touches_shape(instrs, instr))
+    instrs
+        .iter()
+        .any(|instr| overwrites_header_kind(instrs, instr))
 }
 
 /// Whether the instructions break no rule.
@@ -232,5 +239,5 @@ pub(crate) fn accepts(vars: &[VarSpec], template: &[u8], stamped: bool, instrs: 
     if any_writes_past(room, instrs) || any_misses_header(template, room, instrs) {
         return false;
     }
-    !any_touches_shape(instrs)
+    !any_overwrites_header_kind(instrs)
 }

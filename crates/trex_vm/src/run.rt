@@ -4,10 +4,10 @@ ghost use Rattle.std.specs.Prelude.{◌≡◌, ◌+◌, ◌-◌, ◌≤◌, List
 ghost use Rattle.std.specs.List.{list_any};
 ghost use Rattle.trex_fields.specs.Bytes.{put};
 ghost use Rattle.trex_stamp.specs.Stamp.{stamp_bytes};
-ghost use Rattle.trex_vm.specs.Packet.{wrote, applied, trimmed, stamped, packet};
+ghost use Rattle.trex_vm.specs.Packet.{after, after_all, trimmed, stamped, packet};
 ghost use Rattle.trex_vm.specs.declared.instr.Instr.{Instr as AnInstr};
 ghost use Rattle.trex_vm.specs.Cover.{StaysFixed, HeaderVerifies};
-ghost use Rattle.trex_vm.specs.Rules.{writes_past, misses_header, touches_shape};
+ghost use Rattle.trex_vm.specs.Rules.{writes_past, misses_header, overwrites_header_kind};
 ghost use Rattle.trex_vm.specs.Program.{TakesFrom, IsFormed, IsTemplateOf, AreValuesOf};
 
 use crate::fix::{fix_ipv4, fix_l4};
@@ -48,7 +48,7 @@ pub fn run_plain(
     len
 }
 
-// the packet's length
+/// The packet's length in bytes: the number of the trim, or the whole template's length where there is none.
 fn packet_length(instrs: &[Instr], values: &[VarValue], whole: usize) -> usize
     requires { All (TakesFrom (length values.now)) instrs.now }
     ensures { result ≡ trimmed values.now instrs.now whole }
@@ -61,13 +61,13 @@ fn packet_length(instrs: &[Instr], values: &[VarValue], whole: usize) -> usize
     whole
 }
 
-// applies one instruction
+/// Applies one instruction.
 fn apply(instr: &Instr, values: &[VarValue], bytes: &mut [u8])
     requires operand { TakesFrom (length values.now) instr.now }
     requires formed { IsFormed instr.now }
     requires place { writes_past (length bytes.old) instr.now ≡ false }
     requires header { misses_header bytes.old (length bytes.old) instr.now ≡ false }
-    ensures { bytes.new ≡ wrote values.now instr.now bytes.old }
+    ensures { bytes.new ≡ after values.now instr.now bytes.old }
 {
     match *instr {
         Instr::Write { from, at, add, big } => {
@@ -91,21 +91,21 @@ fn apply(instr: &Instr, values: &[VarValue], bytes: &mut [u8])
     }
 }
 
-// applies the instructions, one after another
+/// Applies the instructions, one after another.
 fn apply_all(instrs: &[Instr], values: &[VarValue], bytes: &mut [u8])
     requires operands { All (TakesFrom (length values.now)) instrs.now }
     requires formed { All IsFormed instrs.now }
     requires places { list_any (writes_past (length bytes.old)) instrs.now ≡ false }
     requires headers { list_any (misses_header bytes.old (length bytes.old)) instrs.now ≡ false }
-    requires shape { list_any (touches_shape instrs.now) instrs.now ≡ false }
-    ensures { bytes.new ≡ applied values.now instrs.now bytes.old }
+    requires kinds { list_any (overwrites_header_kind instrs.now) instrs.now ≡ false }
+    ensures { bytes.new ≡ after_all values.now instrs.now bytes.old }
 {
     for instr in instrs {
         apply(instr, values, bytes);
     }
 }
 
-// writes the latency header over the last bytes
+/// Writes the latency header over the last bytes.
 fn stamp_end(bytes: &mut [u8], stamp: &Stamp)
     requires { STAMP_SIZE ≤ length bytes.old }
     ensures { bytes.new ≡ put (length bytes.old - STAMP_SIZE) (stamp_bytes stamp.now) bytes.old }
@@ -114,7 +114,7 @@ fn stamp_end(bytes: &mut [u8], stamp: &Stamp)
     bytes[at..at + STAMP_SIZE].copy_from_slice(&trex_stamp::stamp(stamp));
 }
 
-// writes the packet as it is before its instructions
+/// Writes the packet as it is before its instructions.
 fn write_front(template: &[u8], stamp: Option<Stamp>, bytes: &mut [u8])
     requires long { length bytes.old ≡ length template.now }
     requires stamp { IsSome stamp → STAMP_SIZE ≤ length template.now }
@@ -126,7 +126,7 @@ fn write_front(template: &[u8], stamp: Option<Stamp>, bytes: &mut [u8])
     }
 }
 
-// makes the packet of a template that is cut already
+/// Makes the packet of a template that is cut already.
 fn make_packet(
     instrs: &[Instr],
     template: &[u8],
@@ -140,8 +140,8 @@ fn make_packet(
     requires formed { All IsFormed instrs.now }
     requires places { list_any (writes_past (length template.now)) instrs.now ≡ false }
     requires headers { list_any (misses_header (stamped stamp template.now) (length template.now)) instrs.now ≡ false }
-    requires shape { list_any (touches_shape instrs.now) instrs.now ≡ false }
-    ensures { bytes.new ≡ applied values.now instrs.now (stamped stamp template.now) }
+    requires kinds { list_any (overwrites_header_kind instrs.now) instrs.now ≡ false }
+    ensures { bytes.new ≡ after_all values.now instrs.now (stamped stamp template.now) }
 {
     write_front(template, stamp, bytes);
     apply_all(instrs, values, bytes);

@@ -5,8 +5,8 @@ ghost use Rattle.trex_fields.specs.Bytes.{IsSize};
 ghost use Rattle.trex_vm.specs.Program.{IsFormed, TakesFrom};
 
 use crate::{
-    Instr, L4Kind, Operand, Part, Program, is_trim, least_length, misses_header, programs_fit,
-    room_of, run_plain, touches_shape, trim_wrong, writes_past,
+    Instr, L4Kind, Operand, Part, Program, is_trim, least_length, misses_header,
+    overwrites_header_kind, programs_fit, room_of, run_plain, trim_wrong, writes_past,
 };
 use std::alloc::{AllocError, Global};
 use std::process::Abort;
@@ -651,7 +651,9 @@ fn rules_say_what_is_broken(rt: HostRuntime) {
     assert_eq!(rt; [room_of(30, true), room_of(30, false)], [14, 30]);
     assert!(rt; writes_past(14, &instrs[0]) && !writes_past(15, &instrs[0]));
     assert!(rt; misses_header(&FRAME, 33, &UDP[0]) && !misses_header(&FRAME, 34, &UDP[0]));
-    assert!(rt; touches_shape(&instrs, &instrs[0]) && !touches_shape(&instrs, &instrs[1]));
+    assert!(rt;
+        overwrites_header_kind(&instrs, &instrs[0]) && !overwrites_header_kind(&instrs, &instrs[1])
+    );
 }
 
 #[test]

@@ -2,7 +2,7 @@
 
 ghost use Rattle.std.specs.Prelude.{◌≡◌, ◌+◌, ◌<◌, ◌≤◌, ◌≤ℤ◌, pos, negsuc, length};
 ghost use Rattle.trex_fields.specs.Bytes.{IsSize};
-ghost use Rattle.trex_vm.specs.Write.{part_of, number_in, sum_in, number_at, shifted, masked, written, written_mask};
+ghost use Rattle.trex_vm.specs.Write.{part_of, number_in, sum_in, number_at, shifted, masked, with_number, with_masked_number};
 
 use crate::instr::{Operand, Part};
 use trex_fields::{read_be, read_le, write_be, write_le};
@@ -50,13 +50,14 @@ pub(crate) fn shift_by(number: u64, shift: i8) -> u64
     }
 }
 
+/// The bits of the new number where the mask has ones, those of the old number elsewhere.
 fn mask_in(old: u64, new: u64, mask: u64) -> u64
     ensures { result ≡ masked mask new old }
 {
     (old & !mask) | (new & mask)
 }
 
-// the number of 1, 2, 4 or 8 bytes at a place
+/// The number of 1, 2, 4 or 8 bytes at a place.
 fn read_number(bytes: &[u8], big: bool, size: u8, at: usize) -> u64
     requires size { IsSize size }
     requires room { at + size ≤ length bytes.now }
@@ -78,7 +79,7 @@ fn read_number(bytes: &[u8], big: bool, size: u8, at: usize) -> u64
 pub(crate) fn write_number(bytes: &mut [u8], big: bool, size: u8, at: usize, number: u64)
     requires size { IsSize size }
     requires room { at + size ≤ length bytes.old }
-    ensures { bytes.new ≡ written big size at number bytes.old }
+    ensures { bytes.new ≡ with_number big size at number bytes.old }
 {
     match (size, big) {
         (1, true) => write_be::<1>(bytes, at, number),
@@ -96,7 +97,7 @@ pub(crate) fn write_number(bytes: &mut [u8], big: bool, size: u8, at: usize, num
 pub(crate) fn write_masked(bytes: &mut [u8], big: bool, size: u8, at: usize, mask: u64, number: u64)
     requires size { IsSize size }
     requires room { at + size ≤ length bytes.old }
-    ensures { bytes.new ≡ written_mask big size at mask number bytes.old }
+    ensures { bytes.new ≡ with_masked_number big size at mask number bytes.old }
 {
     let old = read_number(bytes, big, size, at);
     write_number(bytes, big, size, at, mask_in(old, number, mask));

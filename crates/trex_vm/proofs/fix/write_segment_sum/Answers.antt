@@ -4,7 +4,7 @@ use Rattle.trex_sum.specs.Checksum.{sum_of}
 use Rattle.trex_fields.specs.Bytes.{put}
 use Rattle.byteorder.specs.Endian.{big_bytes}
 use Rattle.trex_vm.specs.Fix.{sum_place, written_sum, segment_length, segment_at, pseudo_header}
-use Rattle.trex_vm.proofs.Fixed.{segment_fits-tells, segment_length-put, sum_place-within, summed_by_steps}
+use Rattle.trex_vm.proofs.Fixed.{segment_fits-tells, segment_length-put, sum_place-within, with_checksum_by_steps}
 use Rattle.trex_vm.proofs.fix.write_segment_sum.Goals as goal
 
 pub returns : goal.returns
@@ -25,4 +25,4 @@ returns c =
     ap (segment_length kind ip header) zeroes ∙ segment_length-put kind ip header (0 ∷ 0 ∷ []) whole c.requires.long (omega arith) in
     let len = ap (λ (n : ℕ). sum_of (pseudo_header ip n zeroed ++ slice_range zeroed at (at + n))) (c.requires.len ∙ sym kept) in
     let completes = c.from.ensures ∙ c.written_sum.ensures ∙ ap (λ (n : ℕ). written_sum kind (65535 - n)) c.fold.ensures in
-    summed_by_steps (written_sum kind) (segment_at kind ip header) (at + sum_place kind) whole zeroed c.write_be-2.new.bytes c.segment_sum-sum.result c.from.result zeroes (c.segment_sum-sum.ensures ∙ len) completes writes
+    with_checksum_by_steps (written_sum kind) (segment_at kind ip header) (at + sum_place kind) whole zeroed c.write_be-2.new.bytes c.segment_sum-sum.result c.from.result zeroes (c.segment_sum-sum.ensures ∙ len) completes writes

@@ -6,7 +6,7 @@ use Rattle.trex_vars.specs.Value.{value_at}
 use Rattle.trex_vars.specs.declared.value.VarValue.{VarValue}
 use Rattle.trex_stamp.specs.declared.header.Stamp.{Stamp}
 use Rattle.trex_vm.specs.declared.instr.Instr.{Instr}
-use Rattle.trex_vm.specs.Program.{AreOperandsOf, Plan, TakesFrom, plan_of}
+use Rattle.trex_vm.specs.Program.{AreOperandsOf, ProgramView, TakesFrom, program_view}
 use Rattle.trex_vm.specs.Rules.{accepts}
 use Rattle.trex_vm.proofs.Ends.{AreBetween, accepted-program, accepts-tells, trimmed-between}
 use Rattle.trex_vm.proofs.Stamped.{packet-stamped}
@@ -25,7 +25,7 @@ returns-clause-values c instrs vars template stamped n operands sound accepted =
 -- an accepted program runs over the values of its variables at each packet number
 runs_at : (instrs : List Instr) (vars : List Variable) (template : List ℕ) (stamp : Option Stamp) (n : ℕ) → AreOperandsOf vars instrs
     → AreBetween (λ v. value_at v n) vars → accepts vars template (is_some stamp) instrs ≡ true → 14 ≤ length template → length template ≤ 9216
-    → Runs (plan_of instrs vars template (is_some stamp)) (map (λ v. value_at v n) vars) stamp template
+    → Runs (program_view instrs vars template (is_some stamp)) (map (λ v. value_at v n) vars) stamp template
 runs_at instrs vars template stamp n operands between accepted long short =
     let value : Variable → VarValue = λ v. value_at v n in
     let Taken : ℕ → Type 0 = λ count. All (TakesFrom count) instrs in
@@ -41,7 +41,7 @@ runs_at instrs vars template stamp n operands between accepted long short =
 pub returns-clause-short : goal.returns-clause-short
 returns-clause-short c instrs vars template stamp n operands sound accepted long short =
     let values = map (λ v. value_at v n) vars in
-    let plan : Plan = plan_of instrs vars template (is_some stamp) in
+    let plan : ProgramView = program_view instrs vars template (is_some stamp) in
     let runs = runs_at instrs vars template stamp n operands (λ k d below. c.values_lie_between.ensures _ n (sound k d below)) accepted long short in
     let cut = Runs-cut plan values stamp template runs in
     let is = length-packet plan values stamp template runs in
@@ -49,5 +49,5 @@ returns-clause-short c instrs vars template stamp n operands sound accepted long
 
 pub returns-clause-stamped : goal.returns-clause-stamped
 returns-clause-stamped c instrs vars template stamp n operands sound accepted long short =
-    packet-stamped (plan_of instrs vars template true) (map (λ v. value_at v n) vars) stamp template
+    packet-stamped (program_view instrs vars template true) (map (λ v. value_at v n) vars) stamp template
     (runs_at instrs vars template (Some stamp) n operands (λ k d below. c.values_lie_between.ensures _ n (sound k d below)) accepted long short)

@@ -5,46 +5,46 @@ use Rattle.std.specs.List.{list_any}
 use Rattle.trex_stamp.specs.declared.header.Stamp.{Stamp}
 use Rattle.trex_vars.specs.declared.value.VarValue.{VarValue}
 use Rattle.trex_vm.specs.declared.instr.Instr.{Instr}
-use Rattle.trex_vm.specs.Packet.{applied, trimmed, stamped, front, packet}
+use Rattle.trex_vm.specs.Packet.{after_all, trimmed, stamped, stamped_template, packet}
 use Rattle.trex_vm.specs.Cover.{StaysFixed, HeaderVerifies}
 use Rattle.trex_vm.specs.Rules.{writes_past, misses_header}
-use Rattle.trex_vm.specs.Program.{Plan, IsProgram, IsTemplateOf, AreValuesOf}
-use Rattle.trex_vm.proofs.Theorem.{Runs, Runs-cut, Fit-front, cut, length-packet, packet-verifies}
+use Rattle.trex_vm.specs.Program.{ProgramView, IsProgram, IsTemplateOf, AreValuesOf}
+use Rattle.trex_vm.proofs.Theorem.{Runs, Runs-cut, Fit-stamped_template, cut, length-packet, packet-verifies}
 use Rattle.trex_vm.proofs.run.run_plain.Goals as goal
 
 -- a run, with the list that the program lends and the length that was found
-record Lends (p : Plan) (values : List VarValue) (stamp : Option Stamp) (template : List ℕ) (instrs : List Instr) (n : ℕ) : Type 0 where
+record Lends (p : ProgramView) (values : List VarValue) (stamp : Option Stamp) (template : List ℕ) (instrs : List Instr) (n : ℕ) : Type 0 where
   runs : Runs p values stamp template
   same : instrs ≡ p.instrs
   len : n ≡ trimmed values instrs (length template)
 
-lends : (p : Plan) (values : List VarValue) (stamp : Option Stamp) (template : List ℕ) (instrs : List Instr) (n : ℕ) → IsProgram p → IsTemplateOf p template → AreValuesOf p values
+lends : (p : ProgramView) (values : List VarValue) (stamp : Option Stamp) (template : List ℕ) (instrs : List Instr) (n : ℕ) → IsProgram p → IsTemplateOf p template → AreValuesOf p values
     → is_some stamp ≡ p.stamps → instrs ≡ p.instrs → n ≡ trimmed values instrs (length template) → Lends p values stamp template instrs n
 lends p values stamp template instrs n program meant valued stamps same len =
     record { runs = record { program = program; meant = meant; valued = valued; stamps = stamps }; same = same; len = len }
 
-cut_is : (p : Plan) (values : List VarValue) (stamp : Option Stamp) (template : List ℕ) (instrs : List Instr) (n : ℕ) → Lends p values stamp template instrs n
+cut_is : (p : ProgramView) (values : List VarValue) (stamp : Option Stamp) (template : List ℕ) (instrs : List Instr) (n : ℕ) → Lends p values stamp template instrs n
     → n ≡ cut p values template
 cut_is p values stamp template instrs n lends = lends.len ∙ ap (λ (xs : List Instr). trimmed values xs (length template)) lends.same
 
-cut_within : (p : Plan) (values : List VarValue) (stamp : Option Stamp) (template : List ℕ) (instrs : List Instr) (n : ℕ) → Lends p values stamp template instrs n
+cut_within : (p : ProgramView) (values : List VarValue) (stamp : Option Stamp) (template : List ℕ) (instrs : List Instr) (n : ℕ) → Lends p values stamp template instrs n
     → n ≤ length template
 cut_within p values stamp template instrs n lends =
     omega (arith, cut_is p values stamp template instrs n lends, (Runs-cut p values stamp template lends.runs).1)
 
-long_is : (p : Plan) (values : List VarValue) (stamp : Option Stamp) (template : List ℕ) (instrs : List Instr) (n : ℕ) → Lends p values stamp template instrs n
+long_is : (p : ProgramView) (values : List VarValue) (stamp : Option Stamp) (template : List ℕ) (instrs : List Instr) (n : ℕ) → Lends p values stamp template instrs n
     → length (take n template) ≡ cut p values template
 long_is p values stamp template instrs n lends =
     length-take-le n template (cut_within p values stamp template instrs n lends) ∙ cut_is p values stamp template instrs n lends
 
 -- what was made is the packet, of the length that was found
-made : (p : Plan) (values : List VarValue) (stamp : Option Stamp) (template : List ℕ) (instrs : List Instr) (n : ℕ) (bytes : List ℕ) → Lends p values stamp template instrs n
-    → bytes ≡ applied values instrs (stamped stamp (take n template)) → (bytes ≡ packet p.instrs values stamp template) × (length bytes ≡ n)
+made : (p : ProgramView) (values : List VarValue) (stamp : Option Stamp) (template : List ℕ) (instrs : List Instr) (n : ℕ) (bytes : List ℕ) → Lends p values stamp template instrs n
+    → bytes ≡ after_all values instrs (stamped stamp (take n template)) → (bytes ≡ packet p.instrs values stamp template) × (length bytes ≡ n)
 made p values stamp template instrs n bytes lends is =
     let len = cut_is p values stamp template instrs n lends in
     let whole : bytes ≡ packet p.instrs values stamp template =
-    is ∙ ap (λ (m : ℕ). applied values instrs (stamped stamp (take m template))) len
-    ∙ ap (λ (xs : List Instr). applied values xs (front p.instrs values stamp template)) lends.same in
+    is ∙ ap (λ (m : ℕ). after_all values instrs (stamped stamp (take m template))) len
+    ∙ ap (λ (xs : List Instr). after_all values xs (stamped_template p.instrs values stamp template)) lends.same in
     (whole, ap length whole ∙ length-packet p values stamp template lends.runs ∙ sym len)
 
 -- what stands behind the template's length stays, whatever shorter piece is written
@@ -65,7 +65,7 @@ make_packet-requires-clause-places c =
     let known = lends p values c.args.stamp template instrs n c.instrs-instrs.ensures.sound c.requires.template c.requires.values c.requires.stamp c.instrs-instrs.ensures.instrs c.packet_length-len.ensures in
     ap (λ (m : ℕ). list_any (writes_past m) instrs) (long_is p values c.args.stamp template instrs n known)
     ∙ ap (list_any (writes_past (cut p values template))) known.same
-    ∙ list_any_none (writes_past (cut p values template)) p.instrs (Fit-front p values c.args.stamp template known.runs).places
+    ∙ list_any_none (writes_past (cut p values template)) p.instrs (Fit-stamped_template p values c.args.stamp template known.runs).places
 
 pub make_packet-requires-clause-headers : goal.make_packet-requires-clause-headers
 make_packet-requires-clause-headers c =
@@ -79,8 +79,8 @@ make_packet-requires-clause-headers c =
     let misses : List ℕ → Instr → Bool = λ b. misses_header b (cut p values template) in
     ap (λ (m : ℕ). list_any (misses_header (stamped stamp (take n template)) m) instrs) (long_is p values stamp template instrs n known)
     ∙ ap (λ (m : ℕ). list_any (misses (stamped stamp (take m template))) instrs) (cut_is p values stamp template instrs n known)
-    ∙ ap (list_any (misses (front p.instrs values stamp template))) known.same
-    ∙ list_any_none (misses (front p.instrs values stamp template)) p.instrs (Fit-front p values stamp template known.runs).headers
+    ∙ ap (list_any (misses (stamped_template p.instrs values stamp template))) known.same
+    ∙ list_any_none (misses (stamped_template p.instrs values stamp template)) p.instrs (Fit-stamped_template p values stamp template known.runs).headers
 
 pub returns-clause-rest : goal.returns-clause-rest
 returns-clause-rest c =

@@ -6,7 +6,7 @@ use Rattle.trex_vars.specs.Check.{fault_of}
 use Rattle.trex_vars.specs.Stand.{Stand}
 use Rattle.trex_vars.specs.declared.value.VarValue.{VarValue}
 use Rattle.trex_vm.specs.declared.instr.Instr.{Instr}
-use Rattle.trex_vm.specs.Program.{AreOperandsOf, AreSound, AreValuesOf, IsFormed, Plan, TakesFrom, plan_of}
+use Rattle.trex_vm.specs.Program.{AreOperandsOf, AreSound, AreValuesOf, IsFormed, ProgramView, TakesFrom, program_view}
 use Rattle.trex_vm.proofs.tests.make.Goals as goal
 
 pub run_plain-requires-clause-values : goal.run_plain-requires-clause-values
@@ -25,6 +25,6 @@ run_plain-requires-clause-values c =
     let shown : c.value.result ≡ value_at v n =
     c.value.ensures ∙ ap (λ (s : Stand). value_at s.variable s.number) c.seek.ensures
     ∙ ap (λ (s : Stand). value_at s.variable n) c.start-strided.ensures in
-    let FitsValues : VarValue → Type 0 = λ value. AreValuesOf (plan_of instrs vars template c.is_some.result) (value ∷ []) in
-    let Fits : Plan → Type 0 = λ p. AreValuesOf p (c.value.result ∷ []) in
+    let FitsValues : VarValue → Type 0 = λ value. AreValuesOf (program_view instrs vars template c.is_some.result) (value ∷ []) in
+    let Fits : ProgramView → Type 0 = λ p. AreValuesOf p (c.value.result ∷ []) in
     subst Fits (sym c.in-Some.ensures.plan) (subst FitsValues (sym shown) fit)

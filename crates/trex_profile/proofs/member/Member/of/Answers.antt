@@ -7,7 +7,7 @@ use Rattle.trex_vars.specs.Value.{value_at}
 use Rattle.trex_vars.specs.Variable.{Variable, variable_of}
 use Rattle.trex_vm.specs.declared.instr.Instr.{Instr}
 use Rattle.trex_vm.specs.Packet.{packet}
-use Rattle.trex_vm.specs.Program.{Plan, AreOperandsOf, AreSound, AreValuesOf, IsTemplateOf, plan_of}
+use Rattle.trex_vm.specs.Program.{ProgramView, AreOperandsOf, AreSound, AreValuesOf, IsTemplateOf, program_view}
 use Rattle.trex_vm.specs.Rules.{accepts}
 use Rattle.trex_profile.specs.Instruction.{instruction}
 use Rattle.trex_profile.specs.Packets.{variables, program, stamp_at}
@@ -30,8 +30,8 @@ returns-clause-spec c =
     → f (map variable_of c.deref-3.result.now) (program_of c.deref-4.result.now) c.deref-5.result.now c.is_some.result ≡ f (variables s) (program s) s.template (is_some s.flow) =
     λ X f. ap (λ v. f v (program_of c.deref-4.result.now) c.deref-5.result.now c.is_some.result) held_vars ∙ ap (λ p. f (variables s) p c.deref-5.result.now c.is_some.result) held_program
     ∙ ap (λ t. f (variables s) (program s) t c.is_some.result) c.deref-5.ensures.value ∙ ap (λ b. f (variables s) (program s) s.template b) c.is_some.ensures in
-    let plan : c.in_ok-program.program ≡ plan_of (program s) (variables s) s.template (is_some s.flow) =
-    sym (unless-kept _ _ _ c.in_ok-program.ensures.value).1 ∙ same Plan (λ v p t b. plan_of p v t b) in
+    let plan : c.in_ok-program.program ≡ program_view (program s) (variables s) s.template (is_some s.flow) =
+    sym (unless-kept _ _ _ c.in_ok-program.ensures.value).1 ∙ same ProgramView (λ v p t b. program_view p v t b) in
     let accepted : accepts (variables s) s.template (is_some s.flow) (program s) ≡ true = sym (same Bool (λ v p t b. accepts v t b p)) ∙ c.in_ok-program.ensures.accepts in
     let operands : AreOperandsOf (variables s) (program s) =
     subst (λ (v : List Variable). AreOperandsOf v (program s)) vars
@@ -53,8 +53,8 @@ returns-clause-spec c =
       vars = vars;
       sound = sound;
       plan = plan;
-      fits = subst (λ (p : Plan). IsTemplateOf p s.template) (sym plan) (c.programs_fit.ensures.template (program s) (variables s) s.template (is_some s.flow) accepted);
-      values = λ number. subst (λ (p : Plan). AreValuesOf p (map (λ v. value_at v number) (variables s))) (sym plan)
+      fits = subst (λ (p : ProgramView). IsTemplateOf p s.template) (sym plan) (c.programs_fit.ensures.template (program s) (variables s) s.template (is_some s.flow) accepted);
+      values = λ number. subst (λ (p : ProgramView). AreValuesOf p (map (λ v. value_at v number) (variables s))) (sym plan)
           (c.programs_fit.ensures.values (program s) (variables s) s.template (is_some s.flow) number operands sound accepted);
       short = λ number time.
           let within = c.programs_fit.ensures.short (program s) (variables s) s.template (stamp_at s number time) number operands sound
