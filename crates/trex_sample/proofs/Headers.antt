@@ -3,6 +3,7 @@ use Rattle.std.proofs.Common.{◌≡◌, ℕ, zero, suc, ◌+◌, ◌-◌, ◌�
 use Rattle.std.specs.Prelude.{slice_index}
 use Rattle.std.proofs.lemmas.Bool.Decides.{nat_tests}
 use Rattle.std.proofs.lemmas.List.{length-replicate}
+use Rattle.trex_layers.specs.declared.sizes.TheConstants.{LONGEST_PACKET}
 use Rattle.trex_sum.specs.Checksum.{sum_of, fold_of}
 use Rattle.trex_vm.specs.declared.instr.L4Kind.TheVariants.{Udp}
 use Rattle.trex_vm.specs.Fix.{written_sum}
@@ -11,7 +12,7 @@ use Rattle.trex_sample.specs.Template.{pseudo_header, udp_with, ipv4, udp_sum, u
 -- the headers on which fixes rest: version 4 and five words, UDP, and a whole UDP header
 pub record IsHeaded (bytes : List ℕ) : Type 0 where
   pub long : 42 ≤ length bytes
-  pub short : length bytes ≤ 9216
+  pub short : length bytes ≤ LONGEST_PACKET
   pub version : slice_index bytes 14 ≡ 69
   pub protocol : slice_index bytes 23 ≡ 17
 

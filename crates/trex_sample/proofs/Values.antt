@@ -1,6 +1,7 @@
 -- A stream of the sample breaks no rule on its values.
 use Rattle.std.proofs.Common.{◌≡◌, ℕ, ◌+◌, ◌*◌, ◌%◌, ◌^◌, ◌==◌, ◌≤◌, Bool, true, false, nat_le, nat_lt, List, length, None, refl, arith}
 use Rattle.std.proofs.lemmas.Bool.Decides.{nat_tests}
+use Rattle.trex_layers.specs.declared.sizes.TheConstants.{LONGEST_PACKET}
 use Rattle.trex_layers.specs.Layers.{parsed}
 use Rattle.trex_layers.specs.declared.places.Layers.{Layers}
 use Rattle.trex_profile.specs.InstrRules.{names_rules, length_rules, place_rules, does_rules}
@@ -46,9 +47,9 @@ times-kept s length_right positive slow some = rw length_right (rw positive (rw 
 right-length : (bytes : List ℕ) → IsHeaded bytes → length_wrong bytes ≡ false
 right-length bytes headed =
     let long : 42 ≤ length bytes = headed.long in
-    let short : length bytes ≤ 9216 = headed.short in
+    let short : length bytes ≤ LONGEST_PACKET = headed.short in
     let not_short : nat_lt (length bytes) 14 ≡ false = grind (arith, nat_tests) in
-    let not_long : nat_lt 9216 (length bytes) ≡ false = grind (arith, nat_tests) in
+    let not_long : nat_lt LONGEST_PACKET (length bytes) ≡ false = grind (arith, nat_tests) in
     rw not_short not_long
 
 positive : (n : ℕ) → ((1 + n % 1000000) * 10 ^ 6 == 0) ≡ false
