@@ -114,7 +114,10 @@ fn a_writer_of_std_is_flushed_after_each_write(rt: HostRuntime) -> Result<(), Fa
         flushed: 0,
         fails: false,
     };
-    assert_eq!(rt; write_all(&mut StdSink::new(&mut writer), b"a letter"), Ok(()));
+    assert_eq!(rt;
+        write_all(&mut StdSink::new(&mut writer), b"a letter"),
+        Ok(())
+    );
     assert_eq!(rt; writer.taken.as_slice(), b"a letter".as_slice());
     assert_eq!(rt; (writer.flushes, writer.flushed), (3, 8));
     writer.fails = true;
