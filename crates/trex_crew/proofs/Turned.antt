@@ -18,6 +18,7 @@ use Rattle.trex_crew.specs.Orders.{AreInOrder}
 use Rattle.trex_crew.specs.Told.{Entered}
 use Rattle.trex_crew.specs.Workers.{MayDraw}
 use Rattle.trex_crew.specs.Rounds.{IsLent, AreLent, ArePieces}
+use Rattle.trex_crew.specs.Turns.{TookTurn, TookTurns}
 use Rattle.trex_crew.proofs.Cores.{cores_in_order, each_core}
 
 -- the cores that were put back are those of the works
@@ -33,22 +34,33 @@ entered_works {T = T} entries core_of cores works round old new once order enter
 
 module _ {T : Type 0} (core_of turns : T → ℕ) (stem : T → List (List ℕ)) (settled sound : T → Type 0) (turned : T → T)
     (law : (old new : T) → sound old → core_of new ≡ core_of old → turns new ≡ turns old + 1 → stem new ≡ stem old → settled new → new ≡ turned old) where
-  turned_one : (core : ℕ) (t u : Stand) (old new : T) → core_of old ≡ core → IsLent turns stem sound t old → u ≡ turned_by 1 t → IsPiece core_of turns stem settled core u 0 new → new ≡ turned old
-  turned_one core t u old new is lent after piece =
+  kept_one : (core : ℕ) (t u : Stand) (old new : T) → core_of old ≡ core → IsLent turns stem sound t old → u ≡ turned_by 1 t → IsPiece core_of turns stem settled core u 0 new
+      → TookTurn core_of turns stem settled old new
+  kept_one core t u old new is lent after piece =
       let p = subst (λ x. IsPiece core_of turns stem settled core x 0 new) after piece in
       let a = p.turns_are in
       let b = lent.turns_are in
-      law old new lent.is_sound (p.core_is ∙ sym is) (omega arith) (p.stem_is ∙ lent.stem_is) (p.settles (omega arith))
+      record { core_is = p.core_is ∙ sym is; turns_are = omega arith; stem_is = p.stem_is ∙ lent.stem_is; settles = p.settles (omega arith) }
 
   -- each work took one turn
-  pub all_turned : (v u : View) (core : ℕ) (old new : List T) → AreInOrder core_of core old → AreLent turns stem sound v core old → ArePieces core_of turns stem settled u core new
-      → length new ≡ length old → ((k : ℕ) → k < core + length old → stand_at u k ≡ turned_by 1 (stand_at v k)) → new ≡ map turned old
-  all_turned v u core [] [] order lent pieces long after = refl
-  all_turned v u core [] (y ∷ ys) order lent pieces long after = absurd (omega arith)
-  all_turned v u core (x ∷ xs) [] order lent pieces long after = absurd (omega arith)
-  all_turned v u core (x ∷ xs) (y ∷ ys) (is, order) (lent, all_lent) (piece, pieces) long after =
-      let one = turned_one core (stand_at v core) (stand_at u core) x y is lent (after core (omega arith)) piece in
-      let rest = all_turned v u (core + 1) xs ys order all_lent pieces (omega arith) (λ k h. after k (omega arith)) in
+  pub all_kept : (v u : View) (core : ℕ) (old new : List T) → AreInOrder core_of core old → AreLent turns stem sound v core old → ArePieces core_of turns stem settled u core new
+      → length new ≡ length old → ((k : ℕ) → k < core + length old → stand_at u k ≡ turned_by 1 (stand_at v k)) → TookTurns core_of turns stem settled old new
+  all_kept v u core [] [] order lent pieces long after = tt
+  all_kept v u core [] (y ∷ ys) order lent pieces long after = absurd (omega arith)
+  all_kept v u core (x ∷ xs) [] order lent pieces long after = absurd (omega arith)
+  all_kept v u core (x ∷ xs) (y ∷ ys) (is, order) (lent, all_lent) (piece, pieces) long after = (
+    kept_one core (stand_at v core) (stand_at u core) x y is lent (after core (omega arith)) piece,
+    all_kept v u (core + 1) xs ys order all_lent pieces (omega arith) (λ k h. after k (omega arith)),
+  )
+
+  -- so each is what a turn makes of it
+  pub all_turned : (v : View) (core : ℕ) (old new : List T) → AreLent turns stem sound v core old → TookTurns core_of turns stem settled old new → new ≡ map turned old
+  all_turned v core [] [] lent kept = refl
+  all_turned v core [] (y ∷ ys) lent kept = absurd kept
+  all_turned v core (x ∷ xs) [] lent kept = absurd kept
+  all_turned v core (x ∷ xs) (y ∷ ys) (lent, all_lent) (kept, all_kept) =
+      let one = law x y lent.is_sound kept.core_is kept.turns_are kept.stem_is kept.settles in
+      let rest = all_turned v (core + 1) xs ys all_lent all_kept in
       (λ i. one i ∷ rest i)
 
   few_turns : (v : View) (core : ℕ) (works : List T) (k : ℕ) → core ≤ k → k < core + length works → AreLent turns stem sound v core works

@@ -5,3 +5,4 @@ pub mod Lending
 pub mod Workers
 pub mod Rounds
 pub mod Orders
+pub mod Turns

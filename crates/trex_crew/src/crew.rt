@@ -33,6 +33,7 @@ pub struct Crew<T: Piece> {
 impl<T: Piece> Crew<T> {
     ghost use Rattle.trex_crew.specs.Crews.{works_of};
     ghost use Rattle.trex_crew.specs.Lending.{lends_works};
+    ghost use Rattle.trex_crew.specs.Turns.{TookTurns};
 
     /// A crew of 1 to 64 works, of which work i has core i. Before the first round.
     pub fn new(alloc: Global, works: Vec<T>) -> Result<Crew<T>, Memory>
@@ -51,12 +52,13 @@ impl<T: Piece> Crew<T> {
         })
     }
 
-    /// Every work takes one turn, by as many workers in threads as there are gates, but at most one a core. Before the turn of core c
+    /// Every work takes one turn, which keeps its core and its stem, by as many workers in threads as there are gates, but at most one a core. Before the turn of core c
     /// in round r one of the gates is entered with (r, c). Where there is no gate, the caller's thread does all.
     pub fn round<R: Threads + Sync, G: Gate>(&mut self, rt: &R, gates: &mut [G])
         requires rounds { self.old.rounds < 2 ^ 40 }
         requires turns { AllByRecursion (λ work. T.turns_of work < 2 ^ 63) (works_of self.old) }
         ensures works { works_of self.new ≡ map T.turned (works_of self.old) }
+        ensures kept { TookTurns T.core_of T.turns_of T.stem_of T.is_settled (works_of self.old) (works_of self.new) }
         ensures rounds { self.new.rounds ≡ self.old.rounds + 1 }
         ensures gates { 0 < length gates.old → Entered G.entries T.core_of (works_of self.old) self.old.rounds gates.old gates.new }
     {
@@ -74,6 +76,7 @@ impl<T: Piece> Crew<T> {
         requires rounds { self.old.rounds < 2 ^ 40 }
         requires turns { AllByRecursion (λ work. T.turns_of work < 2 ^ 63) (works_of self.old) }
         ensures works { works_of self.new ≡ map T.turned (works_of self.old) }
+        ensures kept { TookTurns T.core_of T.turns_of T.stem_of T.is_settled (works_of self.old) (works_of self.new) }
         ensures rounds { self.new.rounds ≡ self.old.rounds + 1 }
         ensures gates { Entered G.entries T.core_of (works_of self.old) self.old.rounds gates.old gates.new }
     {

@@ -6,6 +6,7 @@ ghost use Rattle.trex_claims.specs.Boards.{board_id, cores_of};
 ghost use Rattle.trex_crew.specs.Orders.{AreInOrder};
 ghost use Rattle.trex_crew.specs.Told.{Entered};
 ghost use Rattle.trex_crew.specs.Rounds.{IsCalm, AreEmpty};
+ghost use Rattle.trex_crew.specs.Turns.{TookTurns};
 
 use crate::fetching::fetch_all;
 use crate::gate::Gate;
@@ -38,6 +39,7 @@ pub(crate) fn round_on_board<R: Threads + Sync, T: Piece, G: Gate>(
     ensures calm { IsCalm (cores_of board.now) (seat.old.me.0.round.rounds + 1) seat.new.me }
     ensures empty { AreEmpty (cores_of board.now) seat.new.me.0 }
     ensures works { works.new.items ≡ map T.turned works.old.items }
+    ensures kept { TookTurns T.core_of T.turns_of T.stem_of T.is_settled works.old.items works.new.items }
     ensures gates { Entered G.entries T.core_of works.old.items round gates.old gates.new }
 {
     let workers = gates.len().min(works.len());

@@ -1,6 +1,33 @@
 use super::*;
 use std::alloc::{AllocError, Global};
+use std::io::{self, ErrorKind, Write};
 use std::test::Fail;
+
+/// A writer of std that takes at most three bytes a call, and counts its flushes. Where it is told to, a flush fails.
+#[derive(Drop)]
+struct Counting {
+    taken: Vec<u8>,
+    flushes: u32,
+    flushed: usize,
+    fails: bool,
+}
+
+impl Write for Counting {
+    fn write(&mut self, piece: &[u8]) -> io::Result<usize> {
+        let count = piece.len().min(3);
+        self.taken.extend_from_slice(&piece[..count])?;
+        Ok(count)
+    }
+
+    fn flush(&mut self) -> io::Result<()> {
+        if self.fails {
+            return Err(io::Error::from(ErrorKind::Other));
+        }
+        self.flushes = self.flushes.saturating_add(1);
+        self.flushed = self.taken.len();
+        Ok(())
+    }
+}
 
 fn numbers(alloc: Global, list: &[u64]) -> Result<Vec<u64>, AllocError> {
     list.to_vec(alloc)
@@ -76,5 +103,25 @@ fn std_streams_are_a_source_and_a_sink(rt: HostRuntime) -> Result<(), Fail> {
         Err(Failed)
     );
     assert_eq!(rt; room.as_slice(), b"a re".as_slice());
+    Ok(())
+}
+
+#[test]
+fn a_writer_of_std_is_flushed_after_each_write(rt: HostRuntime) -> Result<(), Fail> {
+    let mut writer = Counting {
+        taken: Vec::new(rt.alloc()),
+        flushes: 0,
+        flushed: 0,
+        fails: false,
+    };
+    assert_eq!(rt;
+        write_all(&mut StdSink::new(&mut writer), b"a letter"),
+        Ok(())
+    );
+    assert_eq!(rt; writer.taken.as_slice(), b"a letter".as_slice());
+    assert_eq!(rt; (writer.flushes, writer.flushed), (3, 8));
+    writer.fails = true;
+    assert_eq!(rt; StdSink::new(&mut writer).write(b"more"), Err(Failed));
+    assert_eq!(rt; (writer.taken.len(), writer.flushed), (11, 8));
     Ok(())
 }

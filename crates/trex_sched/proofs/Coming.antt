@@ -1,5 +1,5 @@
 -- What is still to come of a walk, from one run to the next.
-use Rattle.std.proofs.Common.{◌≡◌, ℕ, ◌+◌, ◌%◌, ◌==◌, ◌<◌, ◌≤◌, nat_lt, Bool, true, false, cond, List, [], ◌++◌, Option, None, Some, refl, ap, ◌∙◌, subst, arith, inl, inr}
+use Rattle.std.proofs.Common.{◌≡◌, ℕ, ◌%◌, ◌==◌, ◌<◌, ◌≤◌, nat_lt, Bool, true, false, cond, List, [], ◌∷◌, ◌++◌, Option, None, Some, refl, sym, ap, ◌∙◌, subst, arith, inl, inr}
 use Rattle.std.proofs.lemmas.Bool.{cases_lt}
 use Rattle.std.proofs.lemmas.Bool.Decides.{nat_tests}
 use Rattle.std.proofs.lemmas.List.Elements.{filter-append}
@@ -99,6 +99,15 @@ rest_goes_on chain core cores d run later from is here some =
     share-append core cores (run_entries d run from) (sent_by chain d (run_after chain run))
     ∙ ap (λ (xs : List Slot). xs ++ share core cores (sent_by chain d (run_after chain run))) here
     ∙ ap (share core cores) (some_sent chain d (run_after chain run) later is (after_at chain run) some)
+
+-- the run has one
+pub rest_begins : (chain : Chain) (core cores d : ℕ) (run : Run) (from next : ℕ) (slot : Slot)
+    → share core cores (run_entries d run from) ≡ slot ∷ share core cores (run_entries d run next)
+    → rest_from chain core cores d run from ≡ slot ∷ rest_from chain core cores d run next
+rest_begins chain core cores d run from next slot here =
+    share-append core cores (run_entries d run from) (sent_by chain d (run_after chain run))
+    ∙ ap (λ (xs : List Slot). xs ++ share core cores (sent_by chain d (run_after chain run))) here
+    ∙ ap (λ (xs : List Slot). slot ∷ xs) (sym (share-append core cores (run_entries d run next) (sent_by chain d (run_after chain run))))
 
 -- the next run is the one that the chain comes to
 pub next_is : (chain : Chain) (d : ℕ) (run later : Run) → option_and_then (run_below d) (run_after chain run) ≡ Some later

@@ -1,10 +1,13 @@
 pub mod Periods
 pub mod Offsets
 pub mod Turns
+pub mod Splits
+pub mod Strides
 pub mod Sent
 pub mod Following
 pub mod Reached
 pub mod Coming
+pub mod Later
 pub mod Pairs
 pub mod Heads
 pub mod Shares

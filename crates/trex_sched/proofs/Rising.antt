@@ -14,8 +14,8 @@ use Rattle.trex_sched.specs.Runs.{run_after, run_at, runs, runs_from}
 use Rattle.trex_sched.specs.Times.{HasPackets, size, span}
 use Rattle.trex_sched.specs.ToCome.{IsReached}
 use Rattle.trex_sched.proofs.Following.{all_get, follows, Follows, runs_none}
-use Rattle.trex_sched.proofs.Offsets.{ends_together, offset_rising, offset_spread, offset_within}
-use Rattle.trex_sched.proofs.Pairs.{all_flat, all_kept, all_range, pairs_flat, pairs_more, pairs_range}
+use Rattle.trex_sched.proofs.Offsets.{ends_together, offset_rising, offset_spread, offset_within, run_ends}
+use Rattle.trex_sched.proofs.Pairs.{all_flat, all_kept, all_more, all_range, pairs_flat, pairs_more, pairs_range}
 use Rattle.trex_sched.proofs.Reached.{has_packets, reached_first, reached_next, sent_before}
 
 -- ---- the runs of a chain
@@ -93,6 +93,23 @@ all_reached chain d is =
       | None ↦ λ none. subst (AllByRecursion (IsReached chain)) (sym (runs_none chain d)) tt
       | Some run ↦ λ some. runs_reached chain d run is (reached_first chain 0 run some)
     ] refl)
+
+-- a run that is reached starts before one that it precedes
+starts_before : (chain : Chain) (run later : Run) → IsChain chain → IsReached chain run → Precedes run later → run.start < later.start
+starts_before chain run later is reached p =
+    let sized = ends_together run.leg.period run.leg.mode p.lasts p.ends in
+    let long = run_ends run.leg.period run.leg.mode sized.0 p.lasts (has_packets chain run is reached) sized.1 p.ends in
+    omega (arith, p.later)
+
+pub starts_rise : (chain : Chain) (d : ℕ) → IsChain chain → EachPair (λ run later. run.start < later.start) (runs chain d)
+starts_rise chain d is = rise (runs chain d) (all_reached chain d is) (all_precede chain d)
+  where
+    rise : (rs : List Run) → AllByRecursion (IsReached chain) rs → EachPair Precedes rs → EachPair (λ run later. run.start < later.start) rs
+    rise [] reached pairs = tt
+    rise (run ∷ rs) reached pairs = (
+      all_more (Precedes run) (λ later. run.start < later.start) rs (λ later p. starts_before chain run later is reached.0 p) pairs.0,
+      rise rs reached.1 pairs.1,
+    )
 
 -- ---- legs
 

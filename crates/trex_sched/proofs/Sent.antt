@@ -1,5 +1,5 @@
 -- What a run sends from a packet on, and a core's part of it.
-use Rattle.std.proofs.Common.{◌≡◌, ℕ, zero, suc, ◌+◌, ◌-◌, ◌*◌, ◌%◌, ◌==◌, ◌<◌, ◌≤◌, nat_lt, Bool, true, false, cond, List, [], ◌∷◌, map, unwrap_or, None, Some, refl, sym, ap, ◌∙◌, arith, inl, inr}
+use Rattle.std.proofs.Common.{◌≡◌, ℕ, zero, suc, ◌+◌, ◌-◌, ◌*◌, ◌%◌, ◌==◌, ◌<◌, ◌≤◌, nat_lt, Bool, true, false, cond, List, [], ◌∷◌, map, unwrap_or, Option, None, Some, refl, sym, ap, ◌∙◌, arith, inl, inr}
 use Rattle.std.proofs.lemmas.Bool.{cases_lt}
 use Rattle.std.proofs.lemmas.Bool.Decides.{nat_tests}
 use Rattle.std.specs.List.{filter, range_with_len}
@@ -7,6 +7,7 @@ use Rattle.trex_sched.specs.declared.run.Run.{Run}
 use Rattle.trex_sched.specs.declared.slot.Slot.{Slot}
 use Rattle.trex_sched.specs.Entries.{run_entries, share, slot_of}
 use Rattle.trex_sched.specs.Times.{below, HasPackets, offset, size}
+use Rattle.trex_sched.specs.ToCome.{IsMine}
 use Rattle.trex_sched.proofs.Offsets.{offset_rising}
 
 -- the number of packets that are looked at
@@ -138,3 +139,19 @@ next_found core cores d run before from steps after first others own within begu
     ∙ ap (share core cores) (entries_found d run k within (omega arith))
     ∙ share_own core cores (slot_of run k) (run_entries d run (k + 1)) (ap (λ (n : ℕ). n % cores) (sym number) ∙ own)
     ∙ rw (is, first) refl
+
+-- and it is the core's
+pub found_mine : (core cores d : ℕ) (run : Run) (before from steps after : ℕ) → before ≡ run.visit * unwrap_or (size run.leg) 0
+    → (before + from + steps) % cores ≡ core → from + steps < bound_of d run → run.start < d
+    → below (d - run.start) (offset run.leg (from + steps)) ≡ Some after
+    → IsMine core cores d run (record { time = run.start + after; stream = run.leg.stream; number = before + (from + steps); in_run = from + steps })
+found_mine core cores d run before from steps after first own within begun early =
+    let due = below_some (d - run.start) (offset run.leg (from + steps)) after early in
+    let is : offset run.leg (from + steps) ≡ after = due.0 in
+    let number : before + from + steps ≡ before + (from + steps) = omega arith in
+    record {
+      is = rw (is, first) refl;
+      within = λ n sized. omega (arith, ap (λ (o : Option ℕ). unwrap_or o d) sized);
+      early = omega (arith, due.1);
+      own = ap (λ (n : ℕ). n % cores) (sym number) ∙ own;
+    }

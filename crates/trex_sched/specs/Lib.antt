@@ -2,6 +2,7 @@ pub mod Times
 pub mod Chain
 pub mod Runs
 pub mod Entries
+pub mod Strides
 pub mod ToCome
 pub mod Heads
 pub mod Walks

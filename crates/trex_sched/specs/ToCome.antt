@@ -1,12 +1,14 @@
 -- What a walk has still to come (own).
-use Rattle.std.specs.Prelude.{◌≡◌, ℕ, ◌+◌, ◌*◌, ◌^◌, ◌<◌, ◌≤◌, nat_lt, if◌then◌else◌, unwrap_or, length, Option, None, Some, List, [], ◌∷◌, ◌++◌}
+use Rattle.std.specs.Prelude.{◌≡◌, ℕ, ◌+◌, ◌*◌, ◌%◌, ◌^◌, ◌<◌, ◌≤◌, nat_lt, if◌then◌else◌, unwrap_or, length, Option, None, Some, List, [], ◌∷◌, ◌++◌}
 use Rattle.std.specs.List.{flat_map, slice_get}
 use Rattle.trex_sched.specs.declared.chain.Leg.{Leg}
 use Rattle.trex_sched.specs.declared.run.Run.{Run}
 use Rattle.trex_sched.specs.declared.slot.Slot.{Slot}
+use Rattle.trex_sched.specs.declared.stride.Stride.{Stride}
 use Rattle.trex_sched.specs.Chain.{Chain, IsChain}
 use Rattle.trex_sched.specs.Runs.{run_after, later_runs}
-use Rattle.trex_sched.specs.Entries.{run_entries, share}
+use Rattle.trex_sched.specs.Entries.{run_entries, share, slot_of}
+use Rattle.trex_sched.specs.Strides.{IsAtStride}
 use Rattle.trex_sched.specs.Times.{size}
 
 -- the core's packets of a run from packet k on, and of the runs after it
@@ -39,15 +41,23 @@ abbrev pub then_share : ℕ → ℕ → ℕ → Run → Option Slot → List Slo
 then_share core cores d run None = []
 then_share core cores d run (Some slot) = slot ∷ share core cores (run_entries d run (slot.in_run + 1))
 
--- where there is a next packet, its run is reached, and the run's start and the packet's place in it are below the duration
-abbrev pub IsStanding : Chain → ℕ → Run → Option Slot → Type 0
-IsStanding chain d run None = Unit {0}
-IsStanding chain d run (Some slot) = IsReached chain run × ((run.start < d) × (slot.in_run < d))
+-- a packet of a run that a core sends below the duration
+pub record IsMine (core cores d : ℕ) (run : Run) (slot : Slot) : Type 0 where
+  pub is : slot ≡ slot_of run slot.in_run
+  pub within : (n : ℕ) → size run.leg ≡ Some n → slot.in_run < n
+  pub early : slot.time < d
+  pub own : slot.number % cores ≡ core
+
+-- Where there is a next packet, its run is reached and starts below the duration, and it is the core's. A stride is one from there.
+abbrev pub IsStanding : Chain → ℕ → ℕ → ℕ → Run → Option Stride → Option Slot → Type 0
+IsStanding chain core cores d run stride None = Unit {0}
+IsStanding chain core cores d run stride (Some slot) =
+    IsReached chain run × ((run.start < d) × (IsMine core cores d run slot × IsAtStride run.leg run.start cores slot.in_run stride))
 
 -- what holds of a walk
-pub record IsWalk (chain : Chain) (core cores d : ℕ) (run : Run) (next : Option Slot) : Type 0 where
+pub record IsWalk (chain : Chain) (core cores d : ℕ) (run : Run) (stride : Option Stride) (next : Option Slot) : Type 0 where
   pub walks : IsChain chain
   pub of_cores : core < cores
   pub few : cores ≤ 64
   pub short : d ≤ 10 ^ 18
-  pub stands : IsStanding chain d run next
+  pub stands : IsStanding chain core cores d run stride next

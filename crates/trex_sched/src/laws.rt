@@ -2,7 +2,7 @@
 
 ghost use Rattle.std.specs.Prelude.{◌≡◌, ◌==◌, ◌∷◌, ◌++◌, ◌<◌, ◌≤◌, ℕ, nat_lt, count_by, List, map, Some};
 ghost use Rattle.std.specs.List.{AllByRecursion, filter};
-ghost use Rattle.trex_merge.specs.Order.{AreDistinct, Has, IsRising, ordered};
+ghost use Rattle.trex_merge.specs.Order.{AreDistinct, EachPair, Has, IsRising, ordered};
 ghost use Rattle.trex_sched.specs.Chain.{Chain, IsChain};
 ghost use Rattle.trex_sched.specs.Entries.{entries, key_of, share};
 ghost use Rattle.trex_sched.specs.Numbers.{AreNumbered, of_stream};
@@ -32,6 +32,8 @@ pub fn runs_rise()
     // However many runs are looked at, no other starts below the duration.
     ensures all { (chain : Chain) (d n : ℕ) → IsChain chain → d ≤ n
         → filter (λ run. nat_lt run.start d) (runs_from chain n (run_at chain 0 0 0)) ≡ runs chain d }
+    // Each run starts later than those before it, by 1 ns or more.
+    ensures rising { (chain : Chain) (d : ℕ) → IsChain chain → EachPair (λ run later. run.start < later.start) (runs chain d) }
 {}
 
 /// The laws of the packets of a chain.

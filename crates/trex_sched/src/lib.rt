@@ -9,6 +9,7 @@ mod period;
 mod run;
 mod slot;
 mod steps;
+mod stride;
 #[cfg(test)]
 mod tests;
 mod times;

@@ -13,8 +13,16 @@ pub struct Period {
     pub ghost short: { num < 10 ^ 20 },
 }
 
+/// The time of a packet of a burst, from the burst's start: whole nanoseconds, and what the division by the period's denominator leaves.
+#[derive(Clone, Copy)]
+pub(crate) struct Split {
+    pub(crate) whole: u128,
+    pub(crate) rest: u128,
+}
+
 impl Period {
-    ghost use Rattle.std.specs.Prelude.{◌⊎◌, ◌↔◌, ◌*◌, IsNone, IfSome};
+    ghost use Rattle.std.specs.Prelude.{◌⊎◌, ◌↔◌, ◌*◌, ◌+◌, ℕ, IsNone, IfSome};
+    ghost use Rattle.trex_sched.specs.Strides.{IsSplit};
     ghost use Rattle.trex_sched.specs.Times.{burst_offset, period_of};
 
     /// The period of `num / den` nanoseconds. There is none where it is below 1 ns or the fraction isn't one that is held.
@@ -36,6 +44,38 @@ impl Period {
         ensures small { result ≤ k * 10 ^ 20 }
     {
         u128::from(k) * self.num / self.den
+    }
+
+    /// The same time, split.
+    pub(crate) fn split(&self, k: u64) -> Split
+        requires { k < 3 * 10 ^ 18 }
+        ensures split { IsSplit self.now k result }
+        ensures small { result.whole ≤ k * 10 ^ 20 }
+    {
+        let scaled = u128::from(k) * self.num;
+        Split {
+            whole: scaled / self.den,
+            rest: scaled % self.den,
+        }
+    }
+
+    /// The time of the packet whose number is the sum of two packets' numbers.
+    pub(crate) fn later(&self, one: Split, other: Split) -> Split
+        requires wholes { (one.whole < 2 ^ 126) × (other.whole < 2 ^ 126) }
+        requires rests { (one.rest < self.now.den) × (other.rest < self.now.den) }
+        ensures split { (j k : ℕ) → IsSplit self.now j one → IsSplit self.now k other → IsSplit self.now (j + k) result }
+        ensures bound { result.whole ≤ one.whole + other.whole + 1 }
+    {
+        let whole = one.whole + other.whole;
+        let rest = one.rest + other.rest;
+        if rest < self.den {
+            Split { whole, rest }
+        } else {
+            Split {
+                whole: whole + 1,
+                rest: rest - self.den,
+            }
+        }
     }
 }
 

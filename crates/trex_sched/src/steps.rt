@@ -6,7 +6,7 @@ ghost use Rattle.trex_sched.specs.Chain.{chain_of};
 ghost use Rattle.trex_sched.specs.Entries.{run_entries, share};
 ghost use Rattle.trex_sched.specs.Runs.{run_after, run_at, run_at_next, run_below, stops as stops_with};
 ghost use Rattle.trex_sched.specs.Times.{HasPackets, size};
-ghost use Rattle.trex_sched.specs.ToCome.{then_share};
+ghost use Rattle.trex_sched.specs.ToCome.{IsMine, then_share};
 
 use crate::chain::ChainSpec;
 use crate::run::Run;
@@ -102,7 +102,7 @@ pub(crate) fn next_in_run(
     requires before { run.now.visit * unwrap_or (size run.now.leg) 0 ≤ run.now.start }
     requires from { from ≤ 10 ^ 18 }
     ensures rest { share core cores (run_entries duration run.now from) ≡ then_share core cores duration run.now result }
-    ensures within { IfSome result (λ slot. slot.in_run < duration) }
+    ensures mine { IfSome result (IsMine core cores duration run.now) }
 {
     let packets = packets_in(&run.leg.mode);
     let before = run.visit * packets.unwrap_or(0);

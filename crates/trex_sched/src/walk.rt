@@ -1,6 +1,6 @@
 // One core's packets of a chain, one after another.
 
-ghost use Rattle.std.specs.Prelude.{◌≡◌, ◌^◌, ◌<◌, ◌≤◌, List, length, drop, slice_get};
+ghost use Rattle.std.specs.Prelude.{◌≡◌, ◌+◌, ◌^◌, ◌<◌, ◌≤◌, List, Some, length, drop, slice_get};
 ghost use Rattle.trex_sched.specs.declared.slot.Slot.{Slot as ASlot};
 ghost use Rattle.trex_sched.specs.Chain.{chain_of, IsChain};
 ghost use Rattle.trex_sched.specs.Entries.{entries, share};
@@ -10,6 +10,7 @@ use crate::chain::ChainSpec;
 use crate::run::Run;
 use crate::slot::Slot;
 use crate::steps::{begin, next_in_run, next_run};
+use crate::stride::{Stride, next_by_stride, stride_from};
 use std::marker::Model;
 
 // Where a walk stands: at a packet of a run, or at the end.
@@ -17,42 +18,56 @@ use std::marker::Model;
 struct Cursor {
     run: Run,
     next: Option<Slot>,
+    // Where the core has a later packet in the next one's burst.
+    stride: Option<Stride>,
 }
 
-// The core's first packet from packet `from` of a run on, in this run or a later one.
-fn seek(
-    chain: &ChainSpec,
-    core: u64,
-    cores: u64,
-    duration: u64,
-    mut run: Run,
-    mut from: u64,
-) -> Cursor
+// The core's first packet from packet `from` of the cursor's run on, in this run or a later one.
+fn seek(chain: &ChainSpec, core: u64, cores: u64, duration: u64, cursor: &mut Cursor, mut from: u64)
     requires chain { IsChain (chain_of chain.now) }
     requires core { core < cores }
     requires cores { cores ≤ 64 }
     requires duration { duration ≤ 10 ^ 18 }
-    requires reached { IsReached (chain_of chain.now) run }
-    requires begun { run.start < duration }
+    requires reached { IsReached (chain_of chain.now) cursor.old.run }
+    requires begun { cursor.old.run.start < duration }
     requires from { from ≤ 10 ^ 18 }
-    ensures rest { to_come (chain_of chain.now) core cores duration result.run result.next
-        ≡ rest_from (chain_of chain.now) core cores duration run from }
-    ensures stands { IsStanding (chain_of chain.now) duration result.run result.next }
+    ensures rest { to_come (chain_of chain.now) core cores duration cursor.new.run cursor.new.next
+        ≡ rest_from (chain_of chain.now) core cores duration cursor.old.run from }
+    ensures stands { IsStanding (chain_of chain.now) core cores duration cursor.new.run cursor.new.stride cursor.new.next }
 {
     loop {
-        if let Some(slot) = next_in_run(&run, core, cores, duration, from) {
-            return Cursor {
-                run,
-                next: Some(slot),
-            };
+        if let Some(slot) = next_in_run(&cursor.run, core, cores, duration, from) {
+            cursor.stride = stride_from(&cursor.run, cores, &slot);
+            cursor.next = Some(slot);
+            return;
         }
-        match next_run(chain, &run, duration) {
-            None => return Cursor { run, next: None },
+        match next_run(chain, &cursor.run, duration) {
+            None => {
+                cursor.next = None;
+                return;
+            }
             Some(later) => {
-                run = later;
+                cursor.run = later;
                 from = 0;
             }
         }
+    }
+}
+
+// From the slot at which a cursor stands to the core's next one.
+fn step(chain: &ChainSpec, core: u64, cores: u64, duration: u64, cursor: &mut Cursor, slot: &Slot)
+    requires chain { IsChain (chain_of chain.now) }
+    requires core { core < cores }
+    requires cores { cores ≤ 64 }
+    requires duration { duration ≤ 10 ^ 18 }
+    requires stands { IsStanding (chain_of chain.now) core cores duration cursor.old.run cursor.old.stride (Some slot.now) }
+    ensures rest { to_come (chain_of chain.now) core cores duration cursor.new.run cursor.new.next
+        ≡ rest_from (chain_of chain.now) core cores duration cursor.old.run (slot.now.in_run + 1) }
+    ensures stands { IsStanding (chain_of chain.now) core cores duration cursor.new.run cursor.new.stride cursor.new.next }
+{
+    match next_by_stride(&cursor.run, cores, duration, slot, &mut cursor.stride) {
+        Some(later) => cursor.next = Some(later),
+        None => seek(chain, core, cores, duration, cursor, slot.in_run + 1),
     }
 }
 
@@ -64,16 +79,15 @@ pub struct Walk<'p> {
     core: u64,
     cores: u64,
     duration: u64,
-    run: Run,
-    next: Option<Slot>,
+    cursor: Cursor,
 }
 
 impl<'p> Model for Walk<'p> {
     ghost Value = { List ASlot };
 
-    ghost view = { λ w. to_come (chain_of w.chain.now) w.core w.cores w.duration w.run w.next };
+    ghost view = { λ w. to_come (chain_of w.chain.now) w.core w.cores w.duration w.cursor.run w.cursor.next };
 
-    ghost invariant = { λ w. IsWalk (chain_of w.chain.now) w.core w.cores w.duration w.run w.next };
+    ghost invariant = { λ w. IsWalk (chain_of w.chain.now) w.core w.cores w.duration w.cursor.run w.cursor.stride w.cursor.next };
 }
 
 impl<'p> Walk<'p> {
@@ -88,14 +102,12 @@ impl<'p> Walk<'p> {
     {
         let core = u64::from(core);
         let cores = u64::from(cores);
-        let cursor = first_of(chain, core, cores, duration);
         Walk {
             chain,
             core,
             cores,
             duration,
-            run: cursor.run,
-            next: cursor.next,
+            cursor: first_of(chain, core, cores, duration),
         }
     }
 
@@ -103,7 +115,7 @@ impl<'p> Walk<'p> {
     pub fn peek(&self) -> Option<Slot>
         ensures { result ≡ slice_get self.now 0 }
     {
-        self.next
+        self.cursor.next
     }
 
     /// Passes the next slot.
@@ -111,22 +123,20 @@ impl<'p> Walk<'p> {
         requires { 0 < length self.old }
         ensures { self.new ≡ drop 1 self.old }
     {
-        if let Some(slot) = self.next {
-            let cursor = seek(
+        if let Some(slot) = self.cursor.next {
+            step(
                 self.chain,
                 self.core,
                 self.cores,
                 self.duration,
-                self.run,
-                slot.in_run + 1,
+                &mut self.cursor,
+                &slot,
             );
-            self.run = cursor.run;
-            self.next = cursor.next;
         }
     }
 }
 
-// The core's first packet of a chain.
+// Where a core's walk over a chain begins.
 fn first_of(chain: &ChainSpec, core: u64, cores: u64, duration: u64) -> Cursor
     requires chain { IsChain (chain_of chain.now) }
     requires core { core < cores }
@@ -134,10 +144,18 @@ fn first_of(chain: &ChainSpec, core: u64, cores: u64, duration: u64) -> Cursor
     requires duration { duration ≤ 10 ^ 18 }
     ensures whole { to_come (chain_of chain.now) core cores duration result.run result.next
         ≡ share core cores (entries (chain_of chain.now) duration) }
-    ensures stands { IsStanding (chain_of chain.now) duration result.run result.next }
+    ensures stands { IsStanding (chain_of chain.now) core cores duration result.run result.stride result.next }
 {
     match begin(chain, 0, 0, 0, duration) {
-        Some(run) => seek(chain, core, cores, duration, run, 0),
+        Some(run) => {
+            let mut cursor = Cursor {
+                run,
+                next: None,
+                stride: None,
+            };
+            seek(chain, core, cores, duration, &mut cursor, 0);
+            cursor
+        }
         None => Cursor {
             run: Run {
                 place: 0,
@@ -146,6 +164,10 @@ fn first_of(chain: &ChainSpec, core: u64, cores: u64, duration: u64) -> Cursor
                 start: 0,
             },
             next: None,
+            stride: None,
         },
     }
 }
+
+#[cfg(test)]
+mod tests;

@@ -7,7 +7,7 @@ use Rattle.trex_claims.specs.Moves.{vacant, stand_at, rested}
 use Rattle.trex_claims.specs.Views.{IsFull, times}
 use Rattle.trex_crew.proofs.Entries.{entered_beside}
 use Rattle.trex_crew.proofs.Lent.{lent_full}
-use Rattle.trex_crew.proofs.Turned.{all_turned, begun_ready, entered_works, may_turn, stand_turned}
+use Rattle.trex_crew.proofs.Turned.{all_kept, all_turned, begun_ready, entered_works, may_turn, stand_turned}
 use Rattle.trex_crew.proofs.rounds.round_on_board.Goals as goal
 
 pub begin-base-requires-clause-full : goal.begin-base-requires-clause-full
@@ -37,8 +37,8 @@ fetch_all-requires-clause-full g c κs within core h =
     subst (λ t. IsFull t.what) (sym stand)
     (lent_full p.turns_of p.stem_of p.is_sound me.0 0 c.args.works.now.items core (omega arith) (omega arith) c.lend_all.ensures.lent)
 
-pub returns-clause-works : goal.returns-clause-works
-returns-clause-works g c =
+pub returns-clause-kept : goal.returns-clause-kept
+returns-clause-kept g c =
     let p = g.T.Piece in
     let me = c.lend_all.new.seat.me in
     let after = c.work_by_gates.new.seat.me in
@@ -47,9 +47,15 @@ returns-clause-works g c =
     let count : c.len-count.result ≡ length c.args.works.now.items = search rules in
     let cores = c.requires.cores in
     let long : length me.0.round.stands ≡ length c.args.works.now.items = c.lend_all.ensures.calm.cores_are ∙ sym cores in
-    all_turned p.core_of p.turns_of p.stem_of p.is_settled p.is_sound p.turned (g.met.T.Piece g.world.𝓛 g.world.𝓜 g.world.𝓡 ((λ s x. x), (λ x. x), (λ x. x), λ x. x)).is_turned me.0 (rested after.0) 0 c.args.works.now.items c.fetch_all.new.works.items
+    all_kept p.core_of p.turns_of p.stem_of p.is_settled p.is_sound p.turned (g.met.T.Piece g.world.𝓛 g.world.𝓜 g.world.𝓡 ((λ s x. x), (λ x. x), (λ x. x), λ x. x)).is_turned me.0 (rested after.0) 0 c.args.works.now.items c.fetch_all.new.works.items
     c.requires.order c.lend_all.ensures.lent c.fetch_all.ensures.works (c.fetch_all.ensures.length ∙ count)
     (λ k h. stand_turned me.0 after.0 k c.len-count.result running same (omega arith) (omega arith) (c.fetch_all.ensures.each_once k))
+
+pub returns-clause-works : goal.returns-clause-works
+returns-clause-works g c =
+    let p = g.T.Piece in
+    all_turned p.core_of p.turns_of p.stem_of p.is_settled p.is_sound p.turned (g.met.T.Piece g.world.𝓛 g.world.𝓜 g.world.𝓡 ((λ s x. x), (λ x. x), (λ x. x), λ x. x)).is_turned c.lend_all.new.seat.me.0 0 c.args.works.now.items c.fetch_all.new.works.items
+    c.lend_all.ensures.lent (returns-clause-kept g c)
 
 pub returns-clause-gates : goal.returns-clause-gates
 returns-clause-gates g c =

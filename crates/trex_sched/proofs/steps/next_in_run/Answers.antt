@@ -1,7 +1,5 @@
-use Rattle.std.proofs.Common.{rules, arith, sym, ◌∙◌, ◌+◌, ◌-◌}
-use Rattle.trex_sched.specs.Times.{offset}
-use Rattle.trex_sched.proofs.Offsets.{offset_spread}
-use Rattle.trex_sched.proofs.Sent.{below_some, next_found, next_late, next_past}
+use Rattle.std.proofs.Common.{rules, sym, ◌∙◌}
+use Rattle.trex_sched.proofs.Sent.{found_mine, next_found, next_late, next_past}
 use Rattle.trex_sched.proofs.steps.next_in_run.Goals as goal
 
 pub returns-then-k-unwrap_or-clause-rest : goal.returns-then-k-unwrap_or-clause-rest
@@ -20,9 +18,7 @@ returns-clause-rest c =
     (search rules) c.steps_to.ensures.least c.steps_to.ensures.reached (search rules) c.requires.begun
     (sym c.offset_below.ensures ∙ c.in_ok-after.was)
 
-pub returns-clause-within : goal.returns-clause-within
-returns-clause-within c =
-    let leg = c.args.run.now.leg in
-    let k = c.args.from + c.steps_to.result in
-    let early = below_some (c.args.duration - c.args.run.now.start) (offset leg k) c.in_ok-after.after (sym c.offset_below.ensures ∙ c.in_ok-after.was) in
-    omega (arith, offset_spread leg.period leg.mode k c.requires.packets, early.1)
+pub returns-clause-mine : goal.returns-clause-mine
+returns-clause-mine c =
+    found_mine c.args.core c.args.cores c.args.duration c.args.run.now _ c.args.from c.steps_to.result c.in_ok-after.after
+    (search rules) c.steps_to.ensures.reached (search rules) c.requires.begun (sym c.offset_below.ensures ∙ c.in_ok-after.was)
