@@ -1,0 +1,6 @@
+mod StoreLemmas
+mod OrderLemmas
+mod LaneLemmas
+mod CountLemmas
+mod MergeLemmas
+mod StepLemmas
