@@ -3,7 +3,9 @@ use Rattle.std.proofs.Common.{◌≡◌, ℕ, ◌+◌, ◌*◌, ◌<◌, ◌≤�
 use Rattle.std.proofs.lemmas.Bool.Decides.{eqb_tells, nat_tests}
 use Rattle.std.proofs.lemmas.List.{length-map}
 use Rattle.std.proofs.lemmas.List.Elements.{filter-append}
+use Rattle.std.proofs.lemmas.List.Sorted.{length_permutation}
 use Rattle.std.specs.List.{filter, range_with_len}
+use Rattle.std.specs.List.Sorted.{IsPermutation}
 use Rattle.trex_io.specs.Seen.{Seen}
 use Rattle.trex_merge.specs.declared.key.Key.{Key}
 use Rattle.trex_merge.specs.Order.{is_before, ordered, placed}
@@ -11,9 +13,9 @@ use Rattle.trex_merge.proofs.Laws.{filter-ordered}
 use Rattle.trex_vars.specs.Value.{word_at}
 use Rattle.trex_wire.specs.declared.spec.WireSpec.{WireSpec}
 use Rattle.trex_wire.specs.declared.lanes.Due.{Due}
-use Rattle.trex_wire.specs.Lanes.{lane}
+use Rattle.trex_wire.specs.Lanes.{both, key_in, lane}
 use Rattle.trex_wire.specs.Wired.{arrival, arrivals, copies, copies_by, seen_at, wired, with_copies}
-use Rattle.trex_wire.proofs.LaneLemmas.{arrivals_distinct, copies_any}
+use Rattle.trex_wire.proofs.LaneLemmas.{arrivals_distinct, both_moved, copies_any}
 
 -- ---- a list in order is as long
 
@@ -96,6 +98,13 @@ length-wired ask rs = length-map (ordered (λ k. k) (arrivals ask 0 rs)) (seen_a
 
 pub nothing_lost : (ask : WireSpec) (rs : List Seen) → length (wired rs ask) + with_copies 0 ask 0 rs ≡ length rs + with_copies 2 ask 0 rs
 nothing_lost ask rs = omega (arith, length-wired ask rs, all_counted ask 0 rs)
+
+-- as many arrive as the lanes have, also where these were put in another order
+pub lanes_arrive : (ask : WireSpec) (rs : List Seen) (first second : List Due) → IsPermutation (lane ask 0 0 rs) first → IsPermutation (lane ask 1 0 rs) second
+    → length first + length second ≡ length (wired rs ask)
+lanes_arrive ask rs first second moved again =
+    omega (arith, length-wired ask rs, length_permutation (arrivals ask 0 rs) (both first second) (both_moved ask rs first second moved again),
+    length-append (map (key_in 0) first) (map (key_in 1) second), length-map first (key_in 0), length-map second (key_in 1))
 
 -- ---- bounds
 

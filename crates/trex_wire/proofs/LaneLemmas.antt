@@ -122,15 +122,6 @@ same_moved xs ys moved x = (has_moved xs ys moved x, has_moved ys xs (IsPermutat
 
 -- ---- what arrives, in order
 
--- copies that were moved are in order as before, where they are apart
-pub ordered_moved : (xs ys : List Key) → IsPermutation xs ys → AreDistinct (λ k. k) ys → AreDistinct (λ k. k) xs → ordered (λ k. k) ys ≡ ordered (λ k. k) xs
-ordered_moved xs ys moved distinct there =
-    let same = same_moved xs ys moved in
-    ordered_is_only (λ k. k) (ordered (λ k. k) ys) xs there (rising-ordered (λ k. k) ys distinct) (λ x. (
-      (λ has. (same x).1 ((same-ordered (λ k. k) ys x).0 has)),
-      (λ has. (same-ordered (λ k. k) ys x).1 ((same x).0 has)),
-    ))
-
 -- what arrives is apart
 front_distinct : (ask : WireSpec) (i time w : ℕ) → AreDistinct (λ k. k) (map (arrival ask i time) (range_with_len 0 (copies_by ask w)))
 front_distinct ask i time w =
@@ -159,3 +150,15 @@ arrivals_distinct ask i (r ∷ rs) =
     let number = all_at (λ (k : Key). k.number ≡ i) front x (front_number ask i r.time w) here in
     let past = all_at (λ (k : Key). i + 1 ≤ k.number) later y (arrivals_from ask (i + 1) (i + 1) rs (omega arith)) there in
     omega (arith, number, past, same.1))
+
+-- the copies of two lanes that were put in another order are what arrives, in order
+pub ordered_moved : (ask : WireSpec) (rs : List Seen) (first second : List Due) → IsPermutation (lane ask 0 0 rs) first → IsPermutation (lane ask 1 0 rs) second
+    → AreDistinct (λ k. k) (both first second) → ordered (λ k. k) (both first second) ≡ ordered (λ k. k) (arrivals ask 0 rs)
+ordered_moved ask rs first second moved again distinct =
+    let xs = arrivals ask 0 rs in
+    let ys = both first second in
+    let same = same_moved xs ys (both_moved ask rs first second moved again) in
+    ordered_is_only (λ k. k) (ordered (λ k. k) ys) xs (arrivals_distinct ask 0 rs) (rising-ordered (λ k. k) ys distinct) (λ x. (
+      (λ has. (same x).1 ((same-ordered (λ k. k) ys x).0 has)),
+      (λ has. (same-ordered (λ k. k) ys x).1 ((same x).0 has)),
+    ))

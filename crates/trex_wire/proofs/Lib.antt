@@ -4,3 +4,4 @@ mod LaneLemmas
 mod CountLemmas
 mod MergeLemmas
 mod StepLemmas
+mod BehindLemmas

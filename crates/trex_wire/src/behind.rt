@@ -41,5 +41,8 @@ pub fn measure_behind<S: Source>(
     ensures exact { IfCapture (S.left input.old) (AnswersBy (IsBehind ask) result) }
 {
     let wire = read_into(alloc, input, Wire::new(alloc, ask))?;
-    wire.measure().map_err(|_| MeasureFault::Memory)
+    let Ok(measured) = wire.measure() else {
+        return Err(MeasureFault::Memory);
+    };
+    Ok(measured)
 }
