@@ -22,8 +22,11 @@ ask_is a b same =
 pub on_behind : (text : Option (List ℕ)) (w : Sent) (ask : WireSpec) (c : Counts) (n : WireCounts) → OnCapture text (λ rs. w.list ≡ rs) → w.ask ≡ ask
     → StandsFor c (wired w.list w.ask) → n ≡ wire_counts w.list w.ask → OnCapture text (IsBehind ask (c, n))
 on_behind None w ask c n on same stands counts = tt
-on_behind (Some text) w ask c n (rs, is, listed) same stands counts =
-    (rs, is, (
-      subst (λ (a : WireSpec). StandsFor c (wired rs a)) same (subst (λ (l : List Seen). StandsFor c (wired l w.ask)) listed stands),
-      subst (λ (a : WireSpec). n ≡ wire_counts rs a) same (subst (λ (l : List Seen). n ≡ wire_counts l w.ask) listed counts),
-    ))
+on_behind (Some text) w ask c n (rs, is, listed) same stands counts = (
+  rs,
+  is,
+  (
+    subst (λ (a : WireSpec). StandsFor c (wired rs a)) same (subst (λ (l : List Seen). StandsFor c (wired l w.ask)) listed stands),
+    subst (λ (a : WireSpec). n ≡ wire_counts rs a) same (subst (λ (l : List Seen). n ≡ wire_counts l w.ask) listed counts),
+  ),
+)

@@ -103,8 +103,14 @@ nothing_lost ask rs = omega (arith, length-wired ask rs, all_counted ask 0 rs)
 pub lanes_arrive : (ask : WireSpec) (rs : List Seen) (first second : List Due) → IsPermutation (lane ask 0 0 rs) first → IsPermutation (lane ask 1 0 rs) second
     → length first + length second ≡ length (wired rs ask)
 lanes_arrive ask rs first second moved again =
-    omega (arith, length-wired ask rs, length_permutation (arrivals ask 0 rs) (both first second) (both_moved ask rs first second moved again),
-    length-append (map (key_in 0) first) (map (key_in 1) second), length-map first (key_in 0), length-map second (key_in 1))
+    omega (
+      arith,
+      length-wired ask rs,
+      length_permutation (arrivals ask 0 rs) (both first second) (both_moved ask rs first second moved again),
+      length-append (map (key_in 0) first) (map (key_in 1) second),
+      length-map first (key_in 0),
+      length-map second (key_in 1),
+    )
 
 -- ---- bounds
 

@@ -57,13 +57,7 @@ fn arrives(ask: WireSpec, time: u64, word: u64) -> u64
 
 impl Lanes {
     // Puts the copies of a record where they belong. After want of memory nothing is promised.
-    fn put(
-        &mut self,
-        ask: WireSpec,
-        time: u64,
-        place: u64,
-        words: Words,
-    ) -> Result<(), Memory>
+    fn put(&mut self, ask: WireSpec, time: u64, place: u64, words: Words) -> Result<(), Memory>
         requires ask { IsAsk ask }
         requires early { time < 2 ^ 63 }
         requires lost { self.old.lost < 100000000 }

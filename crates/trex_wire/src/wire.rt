@@ -55,7 +55,8 @@ impl Wire {
         requires early { time < 2 ^ 63 }
         requires short { length bytes.now ≤ 262144 }
         ensures sent { OnOk result (self.new ≡ record self.old {
-            list = self.old.list ++ record { time = time; bytes = bytes.now; original = original } ∷ [] }) }
+          list = self.old.list ++ record { time = time; bytes = bytes.now; original = original } ∷ [];
+        }) }
         ensures err { OnErr result (self.new ≡ self.old) }
     {
         self.store.push(time, bytes, original)

@@ -16,8 +16,18 @@ merge-requires-clause-few c =
     let w = c.self.inside in
     let first = length_permutation c.in_ok-lanes.lanes.first.items c.sort_lane.new.lane.items c.sort_lane.ensures.permutation in
     let second = length_permutation c.in_ok-lanes.lanes.second.items c.sort_lane-2.new.lane.items c.sort_lane-2.ensures.permutation in
-    omega (arith, ap length c.deref.ensures.value, ap length c.deref-2.ensures.value, first, second, ap length c.in_ok-lanes.ensures.first, ap length c.in_ok-lanes.ensures.second,
-    lane_short w.ask 0 0 w.store, lane_short w.ask 1 0 w.store, c.self.invariant.1)
+    omega (
+      arith,
+      ap length c.deref.ensures.value,
+      ap length c.deref-2.ensures.value,
+      first,
+      second,
+      ap length c.in_ok-lanes.ensures.first,
+      ap length c.in_ok-lanes.ensures.second,
+      lane_short w.ask 0 0 w.store,
+      lane_short w.ask 1 0 w.store,
+      c.self.invariant.1,
+    )
 
 pub merge-requires-clause-distinct : goal.merge-requires-clause-distinct
 merge-requires-clause-distinct c =
@@ -45,9 +55,9 @@ returns-clause-stands c =
     let moved : IsPermutation (lane w.ask 0 0 w.store) first = rw (c.deref.ensures.value, ← c.in_ok-lanes.ensures.first) c.sort_lane.ensures.permutation in
     let again : IsPermutation (lane w.ask 1 0 w.store) second = rw (c.deref-2.ensures.value, ← c.in_ok-lanes.ensures.second) c.sort_lane-2.ensures.permutation in
     let distinct : AreDistinct (λ k. k) (both first second) = rw (c.deref.ensures.value, c.deref-2.ensures.value)
-        (both_distinct c.sort_lane.new.lane.items c.sort_lane-2.new.lane.items
-        (c.sort_lane.ensures.distinct 0 (rw c.in_ok-lanes.ensures.first (lane_distinct w.ask 0 0 0 w.store)))
-        (c.sort_lane-2.ensures.distinct 1 (rw c.in_ok-lanes.ensures.second (lane_distinct w.ask 1 1 0 w.store)))) in
+    (both_distinct c.sort_lane.new.lane.items c.sort_lane-2.new.lane.items
+    (c.sort_lane.ensures.distinct 0 (rw c.in_ok-lanes.ensures.first (lane_distinct w.ask 0 0 0 w.store)))
+    (c.sort_lane-2.ensures.distinct 1 (rw c.in_ok-lanes.ensures.second (lane_distinct w.ask 1 1 0 w.store)))) in
     let stands : StandsFor c.in_ok-stats.stats (wired w.store w.ask) =
     subst (StandsFor c.in_ok-stats.stats) (ap (map (seen_at w.store)) (ordered_moved w.ask w.store first second moved again distinct)) c.in_ok-stats.ensures in
     subst (λ (s : Sent). StandsFor c.in_ok-stats.stats (wired s.list s.ask)) c.self.view_is stands
@@ -72,5 +82,15 @@ returns-clause-conserved c =
     let second = c.deref-2.result.now in
     let moved : IsPermutation (lane w.ask 0 0 w.store) first = rw (c.deref.ensures.value, ← c.in_ok-lanes.ensures.first) c.sort_lane.ensures.permutation in
     let again : IsPermutation (lane w.ask 1 0 w.store) second = rw (c.deref-2.ensures.value, ← c.in_ok-lanes.ensures.second) c.sort_lane-2.ensures.permutation in
-    omega (arith, c.len.ensures, c.len-2.ensures, c.deref.ensures.len, c.deref-2.ensures.len, lanes_arrive w.ask w.store first second moved again,
-    nothing_lost w.ask w.store, c.len-3.ensures, c.in_ok-lanes.ensures.lost, c.in_ok-lanes.ensures.copied)
+    omega (
+      arith,
+      c.len.ensures,
+      c.len-2.ensures,
+      c.deref.ensures.len,
+      c.deref-2.ensures.len,
+      lanes_arrive w.ask w.store first second moved again,
+      nothing_lost w.ask w.store,
+      c.len-3.ensures,
+      c.in_ok-lanes.ensures.lost,
+      c.in_ok-lanes.ensures.copied,
+    )
