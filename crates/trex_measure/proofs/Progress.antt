@@ -1,4 +1,4 @@
--- How far the measuring of a capture has come.
+-- How far the reading of a capture has come.
 use Rattle.std.proofs.Common.{◌≡◌, ℕ, ◌+◌, true, List, [], ◌∷◌, ◌++◌, drop, refl, sym, ap, ◌∙◌, subst, append_assoc, append-nil, Option, Some, None, Result, Ok, Err}
 use Rattle.trex_io.specs.Seen.{Seen}
 use Rattle.trex_pcap.specs.declared.fault.CaptureFault.{CaptureFault}
@@ -9,27 +9,26 @@ use Rattle.trex_pcap.specs.Following.{Begins, Follows, IsOfCapture, seen_by}
 use Rattle.trex_pcap.specs.Place.{Place}
 use Rattle.trex_pcap.specs.Reading.{begin, Holds, HoldsAfter, IsCapture}
 use Rattle.trex_pcap.proofs.Readings.{capture_once}
-use Rattle.trex_stats.specs.Counts.{Counts, StandsFor}
 use Rattle.trex_measure.specs.declared.fault.MeasureFault.{MeasureFault}
 use Rattle.trex_measure.specs.declared.fault.MeasureFault.TheVariants.{Read, Bad}
-use Rattle.trex_measure.specs.Measured.{OnCapture, HasFault, IfCapture, IsSound, AnswersFor, measure_fault}
+use Rattle.trex_measure.specs.Measured.{OnCapture, HasFault, IfCapture, IsSound, AnswersBy, measure_fault}
 
--- The counts stand for some records, and what follows these in the rest follows them in the whole text.
-abbrev pub Progress : Option (List ℕ) → Option (List ℕ) → Place → Counts → Type 0
-Progress None left p c = Unit {0}
-Progress (Some text) None p c = ⊥
-Progress (Some text) (Some left) p c =
-    (rs : List Seen) × StandsFor c rs × (begin text ≡ Ok p.format)
+-- This holds of some records, and what follows these in the rest follows them in the whole text.
+abbrev pub Progress : Option (List ℕ) → Option (List ℕ) → Place → (List Seen → Type 0) → Type 0
+Progress None left p P = Unit {0}
+Progress (Some text) None p P = ⊥
+Progress (Some text) (Some left) p P =
+    (rs : List Seen) × P rs × (begin text ≡ Ok p.format)
     × ((ss : List Seen) (e : Option CaptureFault) → Holds p.format p.records left ss e → Holds p.format 0 (drop 24 text) (rs ++ ss) e)
 
 -- one record more
-pub Progress-record : (old mid new : Option (List ℕ)) (p q : Place) (c d : Counts) (r : Record) (buffer : List ℕ) → Progress old mid p c
+pub Progress-record : (old mid new : Option (List ℕ)) (p q : Place) (P Q : List Seen → Type 0) (r : Record) (buffer : List ℕ) → Progress old mid p P
     → Follows p.format p.records mid new (Ok (Some r)) buffer → q ≡ record { format = p.format; records = p.records + 1; live = true }
-    → ((rs : List Seen) → StandsFor c rs → StandsFor d (rs ++ seen_by r buffer ∷ [])) → Progress old new q d
-Progress-record None mid new p q c d r buffer progress follows goes stands = tt
-Progress-record (Some text) None new p q c d r buffer progress follows goes stands = absurd progress
-Progress-record (Some text) (Some left) None p q c d r buffer progress (rest, front, new) goes stands = cc
-Progress-record (Some text) (Some left) (Some after) p q c d r buffer (rs, stood, began, whole) (rest, front, new) goes stands =
+    → ((rs : List Seen) → P rs → Q (rs ++ seen_by r buffer ∷ [])) → Progress old new q Q
+Progress-record None mid new p q P Q r buffer progress follows goes stands = tt
+Progress-record (Some text) None new p q P Q r buffer progress follows goes stands = absurd progress
+Progress-record (Some text) (Some left) None p q P Q r buffer progress (rest, front, new) goes stands = cc
+Progress-record (Some text) (Some left) (Some after) p q P Q r buffer (rs, stood, began, whole) (rest, front, new) goes stands =
     let one = seen_by r buffer in
     let same : rest ≡ after = cc in
     let format : q.format ≡ p.format = ap (λ (x : Place). x.format) goes in
@@ -47,19 +46,19 @@ whole_reading : (text : List ℕ) (f : Format) (rs : List Seen) (e : Option Capt
 whole_reading text f rs e began holds = subst (λ b. HoldsAfter b (drop 24 text) rs e) (sym began) holds
 
 -- the end
-pub Progress-end : (old mid new : Option (List ℕ)) (p : Place) (c : Counts) (buffer : List ℕ) → Progress old mid p c → Follows p.format p.records mid new (Ok None) buffer
-    → OnCapture old (StandsFor c)
-Progress-end None mid new p c buffer progress follows = tt
-Progress-end (Some text) None new p c buffer progress follows = absurd progress
-Progress-end (Some text) (Some left) new p c buffer (rs, stands, began, whole) (front, end) =
+pub Progress-end : (old mid new : Option (List ℕ)) (p : Place) (P : List Seen → Type 0) (buffer : List ℕ) → Progress old mid p P → Follows p.format p.records mid new (Ok None) buffer
+    → OnCapture old P
+Progress-end None mid new p P buffer progress follows = tt
+Progress-end (Some text) None new p P buffer progress follows = absurd progress
+Progress-end (Some text) (Some left) new p P buffer (rs, stands, began, whole) (front, end) =
     (rs, whole_reading text p.format rs None began (subst (λ l. Holds p.format 0 (drop 24 text) l None) (append-nil rs) (whole [] None front)), stands)
 
 -- a fault of the capture
-pub Progress-fault : (old mid new : Option (List ℕ)) (p : Place) (c : Counts) (e : CaptureFault) (buffer : List ℕ) → Progress old mid p c
+pub Progress-fault : (old mid new : Option (List ℕ)) (p : Place) (P : List Seen → Type 0) (e : CaptureFault) (buffer : List ℕ) → Progress old mid p P
     → Follows p.format p.records mid new (Err e) buffer → IsOfCapture e → HasFault old e
-Progress-fault None mid new p c e buffer progress follows own = tt
-Progress-fault (Some text) None new p c e buffer progress follows own = absurd progress
-Progress-fault (Some text) (Some left) new p c e buffer (rs, stands, began, whole) follows own =
+Progress-fault None mid new p P e buffer progress follows own = tt
+Progress-fault (Some text) None new p P e buffer progress follows own = absurd progress
+Progress-fault (Some text) (Some left) new p P e buffer (rs, stands, began, whole) follows own =
     (rs, whole_reading text p.format rs (Some e) began (subst (λ l. Holds p.format 0 (drop 24 text) l (Some e)) (append-nil rs) (whole [] (Some e) (follows own))))
 
 -- a fault of the file header
@@ -69,32 +68,34 @@ Begins-fault (Some text) new e begins own = ([], subst (λ b. HoldsAfter b (drop
 
 -- ---- answers
 
--- counts are the answer for the one reading
-pub exact_counts : (text : Option (List ℕ)) (c : Counts) → OnCapture text (StandsFor c) → IfCapture text (AnswersFor (Ok c))
-exact_counts None c on = tt
-exact_counts (Some text) c (rs, is, stands) = λ ss e. only ss e
-  where
-    only : (ss : List Seen) (e : Option CaptureFault) → IsCapture text ss e → AnswersFor (Ok c) ss e
-    only ss None other = let same = capture_once text rs ss None None is other in subst (StandsFor c) same.0 stands
-    only ss (Some e) other = let same = capture_once text rs ss None (Some e) is other in let wrong = same.1 in cc
+module _ {K : Type 0} (stands : K → List Seen → Type 0) where
+  -- what is kept is the answer for the one reading
+  pub exact_kept : (text : Option (List ℕ)) (k : K) → OnCapture text (stands k) → IfCapture text (AnswersBy stands (Ok k))
+  exact_kept None k on = tt
+  exact_kept (Some text) k (rs, is, stood) = λ ss e. only ss e
+    where
+      only : (ss : List Seen) (e : Option CaptureFault) → IsCapture text ss e → AnswersBy stands (Ok k) ss e
+      only ss None other = let same = capture_once text rs ss None None is other in subst (stands k) same.0 stood
+      only ss (Some e) other = let same = capture_once text rs ss None (Some e) is other in let wrong = same.1 in cc
 
-exact_bad : (text : Option (List ℕ)) (d : CaptureFault) → HasFault text d → IfCapture text (AnswersFor (Err (Bad d)))
-exact_bad None d has = tt
-exact_bad (Some text) d (rs, is) = λ ss e. only ss e
-  where
-    only : (ss : List Seen) (e : Option CaptureFault) → IsCapture text ss e → AnswersFor (Err (Bad d)) ss e
-    only ss None other = let same = capture_once text rs ss (Some d) None is other in let wrong = same.1 in cc
-    only ss (Some e) other = let same = capture_once text rs ss (Some d) (Some e) is other in let right = same.1 in cc
+  exact_bad : (text : Option (List ℕ)) (d : CaptureFault) → HasFault text d → IfCapture text (AnswersBy stands (Err (Bad d)))
+  exact_bad None d has = tt
+  exact_bad (Some text) d (rs, is) = λ ss e. only ss e
+    where
+      only : (ss : List Seen) (e : Option CaptureFault) → IsCapture text ss e → AnswersBy stands (Err (Bad d)) ss e
+      only ss None other = let same = capture_once text rs ss (Some d) None is other in let wrong = same.1 in cc
+      only ss (Some e) other = let same = capture_once text rs ss (Some d) (Some e) is other in let right = same.1 in cc
 
--- an answer that any reading may have
-free : (text : Option (List ℕ)) (answer : Result Counts MeasureFault) → ((ss : List Seen) (e : Option CaptureFault) → AnswersFor answer ss e) → IfCapture text (AnswersFor answer)
-free None answer all = tt
-free (Some text) answer all = λ ss e is. all ss e
+  -- an answer that any reading may have
+  free : (text : Option (List ℕ)) (answer : Result K MeasureFault) → ((ss : List Seen) (e : Option CaptureFault) → AnswersBy stands answer ss e)
+      → IfCapture text (AnswersBy stands answer)
+  free None answer all = tt
+  free (Some text) answer all = λ ss e is. all ss e
 
--- a reader's fault is the answer for the one reading
-pub exact_fault : (text : Option (List ℕ)) (e : CaptureFault) → (IsOfCapture e → HasFault text e) → IfCapture text (AnswersFor (Err (measure_fault e)))
-exact_fault text Fault has = free text (Err Read) (λ ss e. tt)
-exact_fault text e has = exact_bad text e (has tt)
+  -- a reader's fault is the answer for the one reading
+  pub exact_fault : (text : Option (List ℕ)) (e : CaptureFault) → (IsOfCapture e → HasFault text e) → IfCapture text (AnswersBy stands (Err (measure_fault e)))
+  exact_fault text Fault has = free text (Err Read) (λ ss e. tt)
+  exact_fault text e has = exact_bad text e (has tt)
 
 pub sound_fault : (text : Option (List ℕ)) (e : CaptureFault) → (IsOfCapture e → HasFault text e) → IsSound text (measure_fault e)
 sound_fault text Fault has = tt

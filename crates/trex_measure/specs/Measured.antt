@@ -35,12 +35,16 @@ IsSound text Read = Unit {0}
 IsSound text (Bad e) = IsOfCapture e × HasFault text e
 IsSound text Memory = Unit {0}
 
--- The answers for a capture of these records and this fault: counts that stand for the records, where there is no fault; the
--- fault, where there is one; or a failed read or want of memory.
+-- The answers for a capture of these records and this fault, where what is kept stands for records: what stands for the records,
+-- where there is no fault; the fault, where there is one; or a failed read or want of memory.
+abbrev pub AnswersBy : {K : Type 0} → (K → List Seen → Type 0) → Result K MeasureFault → List Seen → Option CaptureFault → Type 0
+AnswersBy stands (Ok k) rs None = stands k rs
+AnswersBy stands (Ok k) rs (Some e) = ⊥
+AnswersBy stands (Err Read) rs e = Unit {0}
+AnswersBy stands (Err (Bad d)) rs None = ⊥
+AnswersBy stands (Err (Bad d)) rs (Some e) = d ≡ e
+AnswersBy stands (Err Memory) rs e = Unit {0}
+
+-- the answers that are counts
 abbrev pub AnswersFor : Result Counts MeasureFault → List Seen → Option CaptureFault → Type 0
-AnswersFor (Ok c) rs None = StandsFor c rs
-AnswersFor (Ok c) rs (Some e) = ⊥
-AnswersFor (Err Read) rs e = Unit {0}
-AnswersFor (Err (Bad d)) rs None = ⊥
-AnswersFor (Err (Bad d)) rs (Some e) = d ≡ e
-AnswersFor (Err Memory) rs e = Unit {0}
+AnswersFor = AnswersBy StandsFor

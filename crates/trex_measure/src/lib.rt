@@ -1,10 +1,12 @@
-// A capture that is read to its end and measured: the counts of its records.
+// A capture that is read to its end, record by record, into what keeps the records, as the counts of them.
 #![tactic(auto)]
 
 mod fault;
-mod measuring;
+mod keep;
+mod reading;
 #[cfg(test)]
 mod tests;
 
 pub use fault::MeasureFault;
-pub use measuring::measure;
+pub use keep::Keep;
+pub use reading::{measure, read_into};

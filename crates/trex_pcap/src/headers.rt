@@ -1,4 +1,4 @@
-ghost use Rattle.std.specs.Prelude.{◌≡◌, ◌+◌, ◌*◌, ◌^◌, ◌≤◌, if◌then◌else◌, length, IfOk, IfErr};
+ghost use Rattle.std.specs.Prelude.{◌≡◌, ◌+◌, ◌*◌, ◌^◌, ◌<◌, ◌≤◌, if◌then◌else◌, length, IfOk, IfErr};
 ghost use Rattle.trex_pcap.specs.Following.{IsOfCapture, ReadsHead};
 ghost use Rattle.trex_pcap.specs.Reading.{format_in, fractions, number_at, opening};
 
@@ -111,7 +111,7 @@ pub(crate) fn read_head(format: Format, number: u64, header: &[u8]) -> Result<Re
     requires { length header.now ≡ 16 }
     ensures value { ReadsHead format number header.now result }
     ensures own { IfErr result IsOfCapture }
-    ensures small { IfOk result (λ r. r.captured ≤ 262144) }
+    ensures small { IfOk result (λ r. (r.captured ≤ 262144) × (r.time < 2 ^ 63)) }
 {
     let big = format.big;
     let seconds = four_at(big, header, 0);

@@ -1,4 +1,4 @@
-ghost use Rattle.std.specs.Prelude.{◌≡◌, ◌+◌, ◌≤◌, true, length, IfOk, IfSome, IfNone, IsErrOf};
+ghost use Rattle.std.specs.Prelude.{◌≡◌, ◌+◌, ◌^◌, ◌<◌, ◌≤◌, true, length, IfOk, IfSome, IfNone, IsErrOf};
 ghost use Rattle.std.specs.Io.KnownBytes.{IsAtEnd};
 ghost use Rattle.trex_io.specs.Faults.{Rises};
 ghost use Rattle.trex_pcap.specs.Following.{Begins, Follows, GoesOn};
@@ -74,7 +74,7 @@ impl CaptureReader {
         requires room { 262144 ≤ length into.old }
         ensures follows { Follows self.old.format self.old.records (S.left source.old) (S.left source.new) result into.new }
         ensures record { IfOk result (λ o. IfSome o (λ r. (r.number ≡ self.old.records + 1)
-            × (r.number ≤ 100000000) × (r.captured ≤ 262144))) }
+            × (r.number ≤ 100000000) × (r.captured ≤ 262144) × (r.time < 2 ^ 63))) }
         ensures end { IfOk result (λ o. IfNone o (IsAtEnd (S.left source.new))) }
         ensures place { GoesOn self.old self.new result }
         ensures later { S.faults source.old ≤ S.faults source.new }
@@ -101,7 +101,7 @@ fn read_record<S: Source>(
     requires room { 262144 ≤ length into.old }
     ensures follows { Follows format before (S.left source.old) (S.left source.new) result into.new }
     ensures record { IfOk result (λ o. IfSome o (λ r. (r.number ≡ before + 1)
-        × (r.number ≤ 100000000) × (r.captured ≤ 262144))) }
+        × (r.number ≤ 100000000) × (r.captured ≤ 262144) × (r.time < 2 ^ 63))) }
     ensures end { IfOk result (λ o. IfNone o (IsAtEnd (S.left source.new))) }
     ensures later { S.faults source.old ≤ S.faults source.new }
     ensures fault { IsErrOf result CaptureFault.Fault → Rises S.faults source.old source.new }

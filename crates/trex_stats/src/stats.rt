@@ -40,7 +40,7 @@ impl Model for Stats {
 
     ghost view = { λ s. record { flows = s.flows.entries; records = s.records; bytes = s.bytes; stamped = s.stamped } };
 
-    ghost invariant = { λ s. (s.records ≤ 100000000) × (s.bytes ≤ s.records * 262144) × (s.stamped ≤ s.records)
+    ghost invariant = { λ s. (s.records ≤ 200000000) × (s.bytes ≤ s.records * 262144) × (s.stamped ≤ s.records)
         × AllUpTo s.stamped s.flows.entries };
 }
 
@@ -72,7 +72,7 @@ impl Stats {
     /// Counts one more record, of this time in ns, these captured bytes and this original length. It counts for a flow where its
     /// packet is whole and ends in a stamp. After want of memory the counts are as before.
     pub fn add(&mut self, time: u64, bytes: &[u8], original: u32) -> Result<(), Memory>
-        requires few { self.old.records < 100000000 }
+        requires few { self.old.records < 200000000 }
         requires short { length bytes.now ≤ 262144 }
         ensures stands { OnOk result ((rs : List Seen) → StandsFor self.old rs
             → StandsFor self.new (rs ++ record { time = time; bytes = bytes.now; original = original } ∷ [])) }
@@ -161,7 +161,7 @@ fn arrive(
     flow: FlowNumber,
     arrival: Arrival,
 ) -> Result<(), Memory>
-    requires few { AllUpTo 100000000 flows.old.entries }
+    requires few { AllUpTo 200000000 flows.old.entries }
     ensures kept { OnOk result ((ps : ℕ → List Arrival) → AreFlows flows.old.entries ps
         → AreFlows flows.new.entries (with_one ps flow arrival)) }
     ensures most { OnOk result ((n : ℕ) → AllUpTo n flows.old.entries → AllUpTo (n + 1) flows.new.entries) }

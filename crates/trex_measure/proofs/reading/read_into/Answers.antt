@@ -1,8 +1,8 @@
 use Rattle.std.proofs.Common.{◌≡◌, ℕ, ◌≤◌, ◌++◌, List, length, take, drop, vec_len, ap, ◌∙◌, arith}
 use Rattle.std.proofs.lemmas.List.{take-append-le, take_all}
 use Rattle.trex_pcap.specs.Place.{Place}
-use Rattle.trex_measure.proofs.Progress.{Progress-record, Progress-end, Progress-fault, exact_counts, exact_fault, sound_fault}
-use Rattle.trex_measure.proofs.measuring.measure.Goals as goal
+use Rattle.trex_measure.proofs.Progress.{Progress-record, Progress-end, Progress-fault, exact_kept, exact_fault, sound_fault}
+use Rattle.trex_measure.proofs.reading.read_into.Goals as goal
 
 -- a buffer whose bytes were all lent has those that are given back
 given_back : (bytes old : List ℕ) (n : ℕ) → length bytes ≡ n → take n (bytes ++ drop (length bytes) old) ≡ bytes
@@ -14,6 +14,7 @@ given_back bytes old n long =
 pub records-preserved : goal.records-preserved
 records-preserved g c =
     let left = g.S.Source.left in
+    let stands = g.K.Keep.stands in
     let place = rw c.in-Ok-Some.field-0-is at c.in-Ok-Some.ensures.place in
     let given = rw c.in-Ok-Some.field-0-is at c.in-Ok-Some.ensures.record in
     let follows = rw c.in-Ok-Some.field-0-is at c.in-Ok-Some.ensures.follows in
@@ -24,34 +25,39 @@ records-preserved g c =
     record {
       live = live;
       most = omega (arith, records, given.0, given.1);
-      counted = omega (arith, records, c.in-Ok-add.ensures.records);
+      counted = omega (arith, records, c.in-Ok-take.ensures.kept);
+      mark = c.in-Ok-take.ensures.mark ∙ c.records.invariant.mark;
       room = c.records.invariant.room;
       faults = omega (arith, c.in-Ok-Some.ensures.later);
-      progress = Progress-record (left c.args.input.now) (left c.records.input) (left c.next.new.source) c.records.reader c.next.new.self c.records.stats c.add.new.self
-          c.in-Ok-Some.record c.next.new.into c.records.invariant.progress follows place (rw same at c.in-Ok-add.ensures.stands);
+      progress = Progress-record (left c.args.input.now) (left c.records.input) (left c.next.new.source) c.records.reader c.next.new.self (stands c.records.keep) (stands c.take.new.self)
+          c.in-Ok-Some.record c.next.new.into c.records.invariant.progress follows place (rw same at c.in-Ok-take.ensures.stands);
     }
 
 pub returns-in-Ok-None-clause-counts : goal.returns-in-Ok-None-clause-counts
 returns-in-Ok-None-clause-counts g c =
     let left = g.S.Source.left in
+    let stands = g.K.Keep.stands in
     let follows = rw c.in-Ok-None.field-0-is at c.in-Ok-None.ensures.follows in
-    Progress-end (left c.args.input.now) (left c.records.input) (left c.next.new.source) c.records.reader c.records.stats c.next.new.into c.records.invariant.progress follows
+    Progress-end (left c.args.input.now) (left c.records.input) (left c.next.new.source) c.records.reader (stands c.records.keep) c.next.new.into c.records.invariant.progress follows
 
 pub returns-in-Ok-None-clause-exact : goal.returns-in-Ok-None-clause-exact
 returns-in-Ok-None-clause-exact g c =
     let left = g.S.Source.left in
+    let stands = g.K.Keep.stands in
     let follows = rw c.in-Ok-None.field-0-is at c.in-Ok-None.ensures.follows in
-    exact_counts (left c.args.input.now) c.records.stats
-    (Progress-end (left c.args.input.now) (left c.records.input) (left c.next.new.source) c.records.reader c.records.stats c.next.new.into c.records.invariant.progress follows)
+    exact_kept stands (left c.args.input.now) c.records.keep
+    (Progress-end (left c.args.input.now) (left c.records.input) (left c.next.new.source) c.records.reader (stands c.records.keep) c.next.new.into c.records.invariant.progress follows)
 
 pub returns-in-Err-next-clause-sound : goal.returns-in-Err-next-clause-sound
 returns-in-Err-next-clause-sound g c =
     let left = g.S.Source.left in
-    let has = Progress-fault (left c.args.input.now) (left c.records.input) (left c.next.new.source) c.records.reader c.records.stats c.in-Err-next.fault c.next.new.into c.records.invariant.progress c.in-Err-next.ensures.follows in
+    let stands = g.K.Keep.stands in
+    let has = Progress-fault (left c.args.input.now) (left c.records.input) (left c.next.new.source) c.records.reader (stands c.records.keep) c.in-Err-next.fault c.next.new.into c.records.invariant.progress c.in-Err-next.ensures.follows in
     rw c.measure_fault-in-Err-next.ensures (sound_fault (left c.args.input.now) c.in-Err-next.fault has)
 
 pub returns-in-Err-next-clause-exact : goal.returns-in-Err-next-clause-exact
 returns-in-Err-next-clause-exact g c =
     let left = g.S.Source.left in
-    let has = Progress-fault (left c.args.input.now) (left c.records.input) (left c.next.new.source) c.records.reader c.records.stats c.in-Err-next.fault c.next.new.into c.records.invariant.progress c.in-Err-next.ensures.follows in
-    rw c.measure_fault-in-Err-next.ensures (exact_fault (left c.args.input.now) c.in-Err-next.fault has)
+    let stands = g.K.Keep.stands in
+    let has = Progress-fault (left c.args.input.now) (left c.records.input) (left c.next.new.source) c.records.reader (stands c.records.keep) c.in-Err-next.fault c.next.new.into c.records.invariant.progress c.in-Err-next.ensures.follows in
+    rw c.measure_fault-in-Err-next.ensures (exact_fault stands (left c.args.input.now) c.in-Err-next.fault has)

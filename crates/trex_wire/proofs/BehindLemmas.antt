@@ -1,0 +1,32 @@
+-- A wire that kept the records of a capture.
+use Rattle.std.proofs.Common.{◌≡◌, ℕ, List, [], ◌∷◌, refl, subst, Option, Some, None}
+use Rattle.trex_io.specs.Seen.{Seen}
+use Rattle.trex_measure.specs.Measured.{OnCapture}
+use Rattle.trex_stats.specs.Counts.{Counts, StandsFor}
+use Rattle.trex_wire.specs.Behind.{IsBehind}
+use Rattle.trex_wire.specs.declared.spec.WireCounts.{WireCounts}
+use Rattle.trex_wire.specs.declared.spec.WireSpec.{WireSpec}
+use Rattle.trex_wire.specs.Sent.{Sent}
+use Rattle.trex_wire.specs.Wired.{wire_counts, wired}
+
+-- two asks with the same numbers are one
+pub ask_is : (a b : WireSpec) → ◌≡◌ {A = List ℕ} (a.seed ∷ a.loss ∷ a.copy ∷ a.delay ∷ []) (b.seed ∷ b.loss ∷ b.copy ∷ b.delay ∷ []) → a ≡ b
+ask_is a b same =
+    let seed : a.seed ≡ b.seed = cc in
+    let loss : a.loss ≡ b.loss = cc in
+    let copy : a.copy ≡ b.copy = cc in
+    let delay : a.delay ≡ b.delay = cc in
+    rw (seed, loss, copy, delay) refl
+
+-- what is measured behind a wire that has the records is that of the capture
+pub on_behind : (text : Option (List ℕ)) (w : Sent) (ask : WireSpec) (c : Counts) (n : WireCounts) → OnCapture text (λ rs. w.list ≡ rs) → w.ask ≡ ask
+    → StandsFor c (wired w.list w.ask) → n ≡ wire_counts w.list w.ask → OnCapture text (IsBehind ask (c, n))
+on_behind None w ask c n on same stands counts = tt
+on_behind (Some text) w ask c n (rs, is, listed) same stands counts = (
+  rs,
+  is,
+  (
+    subst (λ (a : WireSpec). StandsFor c (wired rs a)) same (subst (λ (l : List Seen). StandsFor c (wired l w.ask)) listed stands),
+    subst (λ (a : WireSpec). n ≡ wire_counts rs a) same (subst (λ (l : List Seen). n ≡ wire_counts l w.ask) listed counts),
+  ),
+)

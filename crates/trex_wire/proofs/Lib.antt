@@ -1,0 +1,7 @@
+mod StoreLemmas
+mod OrderLemmas
+mod LaneLemmas
+mod CountLemmas
+mod MergeLemmas
+mod StepLemmas
+mod BehindLemmas
