@@ -17,12 +17,3 @@ mod stream;
 pub use fault::ProfileFault;
 pub use order::shape_rules_in_order;
 pub use reading::{LONGEST_TEXT, read_profile};
-
-#[cfg(test)]
-mod instr_tests;
-#[cfg(test)]
-mod layer_tests;
-#[cfg(test)]
-mod rule_tests;
-#[cfg(test)]
-mod tests;
