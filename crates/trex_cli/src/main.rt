@@ -1,6 +1,10 @@
 // The program trex: command words, standard input, standard output and standard error around the top call.
 #![tactic(auto)]
 
+ghost use Rattle.std.specs.Prelude.{◌≡◌};
+ghost use Rattle.std.specs.Process.{exit_status};
+ghost use Rattle.trex_top.specs.Exit.{exit_number};
+
 use std::env;
 use std::io::{BufReader, ErrorKind};
 use std::process::ExitCode;
@@ -52,6 +56,8 @@ fn main(rt: HostRuntime) -> ExitCode {
 }
 
 /// The exit status of the program.
-fn ended(status: Status) -> ExitCode {
+fn ended(status: Status) -> ExitCode
+    ensures { exit_status result ≡ exit_number status }
+{
     ExitCode::from(status as u8)
 }

@@ -1,0 +1,1 @@
+../../trex_cli/src/main.rt
