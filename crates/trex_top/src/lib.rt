@@ -5,6 +5,7 @@ mod analysis;
 mod capturing;
 mod command;
 mod commands;
+mod edge;
 mod endings;
 mod go_on;
 mod input;
@@ -19,6 +20,7 @@ mod writing;
 
 pub use analysis::{AnalyzeFault, analyze};
 pub use command::trex_main;
+pub use edge::run_program;
 pub use endings::endings_hold;
 pub use laws::runs_measure_clean;
 pub use ready::{Ready, prepare};
