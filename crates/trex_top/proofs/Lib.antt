@@ -9,3 +9,4 @@ pub mod Readying
 pub mod TooLong
 pub mod Clean
 pub mod Counted
+mod EndsLemmas

@@ -2,7 +2,7 @@
 use Rattle.std.proofs.Common.{ℕ, List, Option, Result, Ok, Err, length, subst, sym, arith}
 use Rattle.std.proofs.lemmas.List.{take_all}
 use Rattle.trex_io.specs.Texts.{Wrote, Writes}
-use Rattle.trex_top.specs.Clauses.{Tells}
+use Rattle.trex_top.specs.Sides.{Tells}
 
 -- a call that writes a line tells it
 pub Tells-from_Writes : {K T E : Type 0} (held : K → Option (List ℕ)) (faults : K → ℕ) (old new : K) (result : Result T E) (line : List ℕ)

@@ -5,7 +5,7 @@ use Rattle.std.specs.Io.KnownBytes.{Consumes}
 use Rattle.trex_profile.specs.declared.rule.Rule.TheVariants.{TooLong}
 use Rattle.trex_profile.specs.Refusal.{of_document}
 use Rattle.trex_json.specs.Verdict.{verdict, text_refusal}
-use Rattle.trex_top.specs.Clauses.{HasVerdict}
+use Rattle.trex_top.specs.Rows.{HasVerdict}
 
 -- a text that is too long
 verdict-too_long : (text : List ℕ) → 33554432 < length text → verdict text ≡ Err (of_document TooLong)

@@ -1,11 +1,15 @@
 pub mod Capture
 pub mod Counting
 pub mod Pieces
-pub mod Clauses
-pub mod Making
 pub mod Rounds
 pub mod Steps
 pub mod Ready
 pub mod Clean
 pub mod Analysis
 pub mod Sample
+pub mod Sides
+pub mod Rows
+pub mod Stops
+pub mod Ends
+pub mod Endings
+pub mod Exit

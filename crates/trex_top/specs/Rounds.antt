@@ -1,5 +1,5 @@
 -- The rounds of a run, and what its gates are told of them. Own.
-use Rattle.std.specs.Prelude.{◌≡◌, ℕ, ◌+◌, ◌*◌, ◌/◌, ◌<◌, ◌≤◌, List, ◌++◌, length, map, Option, Some, None, Result, Ok, IsPermutation}
+use Rattle.std.specs.Prelude.{◌≡◌, ℕ, ◌+◌, ◌*◌, ◌/◌, ◌<◌, ◌≤◌, List, ◌++◌, length, map, Option, Some, IsPermutation}
 use Rattle.std.specs.List.{flat_map, range_with_len, slice_get}
 use Rattle.trex_crew.specs.Told.{Entered, IfTold}
 use Rattle.trex_merge.specs.declared.next.Next.{Next}
@@ -7,9 +7,6 @@ use Rattle.trex_merge.specs.declared.next.Next.TheVariants.{Packet, Need, End}
 use Rattle.trex_merge.specs.Frames.{Frame, share}
 use Rattle.trex_merge.specs.Machine.{sent_by}
 use Rattle.trex_merge.specs.Queues.{Queue}
-use Rattle.trex_words.specs.declared.asked.Asked.{Asked}
-use Rattle.trex_words.specs.declared.asked.Asked.TheVariants.{Run, Sample}
-use Rattle.trex_words.specs.declared.asked.Usage.{Usage}
 
 -- the entries of a round: one for each core
 abbrev pub round_of : ℕ → ℕ → List (ℕ × ℕ)
@@ -47,9 +44,3 @@ TellEnough entries cores frames old new = 0 < length old → IfTold entries old 
 abbrev pub IsFed : ℕ → List Frame → ℕ → List Queue → Type 0
 IsFed cores frames rounds queues =
     (core : ℕ) (queue : Queue) → slice_get queues core ≡ Some queue → length (share core cores frames) ≤ length queue.coming + 4096 * rounds
-
--- on how many cores packets are made, where the words ask for that
-abbrev pub cores_asked : Result Asked Usage → Option ℕ
-cores_asked (Ok (Run ask)) = Some ask.cores
-cores_asked (Ok (Sample ask)) = Some ask.run.cores
-cores_asked _ = None

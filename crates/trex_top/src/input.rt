@@ -1,7 +1,7 @@
 ghost use Rattle.std.specs.Prelude.{IfOk, IfErr, Ok, OnOk};
 ghost use Rattle.std.specs.Io.KnownBytes.{IsAtEnd};
-ghost use Rattle.trex_top.specs.Clauses.{HasVerdict};
-ghost use Rattle.trex_top.specs.Making.{ReadingStops};
+ghost use Rattle.trex_top.specs.Rows.{HasVerdict};
+ghost use Rattle.trex_top.specs.Stops.{ReadingStops};
 
 use std::alloc::Global;
 use trex_io::{ReadAll, Source, read_all};

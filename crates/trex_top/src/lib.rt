@@ -2,23 +2,29 @@
 #![tactic(auto)]
 
 mod analysis;
-mod check;
+mod capturing;
 mod command;
+mod commands;
+mod edge;
+mod endings;
 mod go_on;
 mod input;
 mod laws;
 mod pieces;
 mod ready;
-mod run;
 mod sampling;
+mod saying;
+mod status;
 mod steps;
-mod stop;
 mod writing;
 
 pub use analysis::{AnalyzeFault, analyze};
-pub use command::{Status, trex_main};
+pub use command::trex_main;
+pub use edge::run_program;
+pub use endings::endings_hold;
 pub use laws::runs_measure_clean;
 pub use ready::{Ready, prepare};
 pub use sampling::{SampleFault, sample};
+pub use status::Status;
 pub use trex_report::Tally;
 pub use writing::generate;

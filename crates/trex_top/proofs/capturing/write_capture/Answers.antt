@@ -8,7 +8,7 @@ use Rattle.trex_top.specs.Ready.{all_of, cores_of, gone_to}
 use Rattle.trex_top.specs.Rounds.{Suffice}
 use Rattle.trex_top.proofs.Readying.{all_same, gone_all}
 use Rattle.trex_top.proofs.Telling.{tell_all, tell_enough, tell_no_rounds}
-use Rattle.trex_top.proofs.run.write_capture.Goals as goal
+use Rattle.trex_top.proofs.capturing.write_capture.Goals as goal
 
 pub returns-in-Ok-generate-clause-made : goal.returns-in-Ok-generate-clause-made
 returns-in-Ok-generate-clause-made g c =

@@ -1,0 +1,71 @@
+-- What follows from how the commands end. Own.
+use Rattle.std.specs.Prelude.{◌≡◌, ◌⊎◌, ℕ, List, [], ◌∷◌, Option, Some, None, Result, Ok, Err}
+use Rattle.trex_io.specs.Seen.{Seen}
+use Rattle.trex_json.specs.Verdict.{verdict}
+use Rattle.trex_measure.specs.Measured.{HasFault}
+use Rattle.trex_pcap.specs.declared.fault.CaptureFault.{CaptureFault}
+use Rattle.trex_pcap.specs.Reading.{IsCapture}
+use Rattle.trex_profile.specs.declared.refusal.Refusal.{Refusal}
+use Rattle.trex_profile.specs.Stream.{Stream}
+use Rattle.trex_words.specs.declared.asked.Asked.{Asked}
+use Rattle.trex_words.specs.declared.asked.Asked.TheVariants.{Run, Check, Analyze, Sample, Help}
+use Rattle.trex_words.specs.declared.asked.Usage.{Usage as WordsFault}
+use Rattle.trex_top.specs.declared.status.Status.{Status}
+use Rattle.trex_top.specs.declared.status.Status.TheVariants.{Done, ReadFault, OutFault, NotesFault}
+use Rattle.trex_top.specs.Sides.{Side, GateSide, Kept, Failed, Unentered, Rounds}
+
+-- a status is among these
+abbrev pub IsAmong : Status → List Status → Type 0
+IsAmong s [] = ⊥
+IsAmong s (t ∷ ts) = (s ≡ t) ⊎ IsAmong s ts
+
+-- the text is told, and is a profile
+abbrev pub IsProfile : Option (List ℕ) → Type 0
+IsProfile None = ⊥
+IsProfile (Some text) = (p : List Stream) × (verdict text ≡ Ok p)
+
+-- the text is told, and breaks a rule on profiles
+abbrev pub IsRefused : Option (List ℕ) → Type 0
+IsRefused None = ⊥
+IsRefused (Some text) = (r : Refusal) × (verdict text ≡ Err r)
+
+-- the text is told, and is a capture without a fault
+abbrev pub IsGoodCapture : Option (List ℕ) → Type 0
+IsGoodCapture None = ⊥
+IsGoodCapture (Some text) = (rs : List Seen) × IsCapture text rs None
+
+-- the text is told, and has a fault as a capture
+abbrev pub IsBadCapture : Option (List ℕ) → Type 0
+IsBadCapture None = ⊥
+IsBadCapture (Some text) = (e : CaptureFault) × HasFault (Some text) e
+
+-- the input is what the request is for
+abbrev pub Suits : Asked → Option (List ℕ) → Type 0
+Suits (Run ask) text = IsProfile text
+Suits Check text = IsProfile text
+Suits Analyze text = IsGoodCapture text
+Suits (Sample ask) text = Unit {0}
+Suits Help text = Unit {0}
+
+module _ {S O N : Type 0} where
+  -- a status of a fault has its cause
+  abbrev pub HasItsCause : Side S → Side O → Side N → Status → Type 0
+  HasItsCause input out notes ReadFault = Failed input
+  HasItsCause input out notes OutFault = Failed out
+  HasItsCause input out notes NotesFault = Failed notes
+  HasItsCause input out notes _ = Unit {0}
+
+module _ {O : Type 0} where
+  -- but for the statuses that come after the first write, the output is left alone
+  abbrev pub LeavesOutput : Side O → Status → Type 0
+  LeavesOutput out Done = Unit {0}
+  LeavesOutput out OutFault = Unit {0}
+  LeavesOutput out NotesFault = Unit {0}
+  LeavesOutput out _ = Kept out
+
+module _ {G : Type 0} where
+  -- the gates are entered for whole rounds of the cores that are asked for, and for nothing else
+  abbrev pub EntersGates : Result Asked WordsFault → GateSide G → Type 0
+  EntersGates (Ok (Run ask)) gates = Rounds gates ask.cores
+  EntersGates (Ok (Sample ask)) gates = Rounds gates ask.run.cores
+  EntersGates _ gates = Unentered gates
