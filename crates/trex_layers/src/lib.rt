@@ -1,10 +1,15 @@
 // The headers that a packet's bytes hold, and where each begins.
 #![tactic(auto)]
 
+mod constants;
 mod parsing;
 mod places;
 #[cfg(test)]
 mod tests;
 
+pub use constants::{
+    ETHERNET_LEN, IPV4_LEN, IPV4_PROTOCOL_AT, IPV4_SOURCE_AT, PROTOCOL_TCP, PROTOCOL_UDP, TAG_LEN,
+    TCP_LEN, TYPE_IPV4, TYPE_LEN, TYPE_VLAN, UDP_LEN,
+};
 pub use parsing::{ipv4_at, parse};
 pub use places::{Ipv4Place, L4Place, Layers};
