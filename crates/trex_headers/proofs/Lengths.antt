@@ -1,10 +1,10 @@
 -- How long headers and packets are.
-use Rattle.std.proofs.Common.{◌≡◌, ℕ, ◌+◌, nat_le, nat_lt, true, if◌then◌else◌, List, [], ◌∷◌, length, slice_get, sum_by, Option, None, Some, refl, ap, ◌∙◌, arith, length-append}
+use Rattle.std.proofs.Common.{◌≡◌, ℕ, ◌+◌, nat_le, nat_lt, true, if◌then◌else◌, List, [], ◌∷◌, ◌++◌, length, slice_get, sum_by, Option, None, Some, refl, ap, ◌∙◌, arith, length-append}
 use Rattle.std.proofs.lemmas.List.Sums.{sum_by-cons}
 use Rattle.std.proofs.lemmas.Bool.Decides.{nat_tests}
-use Rattle.trex_build.specs.Layer.{Layer, Ethernet, Vlan, Ipv4, Tcp, Udp, Raw}
-use Rattle.trex_build.specs.Header.{sealed, ipv4_front, tcp_front, udp_front, header_of}
-use Rattle.trex_build.specs.Built.{bytes_behind, header_length, too_long}
+use Rattle.trex_headers.specs.Layer.{Layer, Ethernet, Vlan, Ipv4, Ipv6, Tcp, Udp, Raw}
+use Rattle.trex_headers.specs.Header.{sealed, ipv4_front, ipv6_front, tcp_front, udp_front, protocol_before, header_of}
+use Rattle.trex_headers.specs.Built.{bytes_behind, header_length, too_long}
 
 -- a header is as long as its fields and its checksum
 length-sealed : (written : ℕ → ℕ) (pseudo front back payload : List ℕ) → length (sealed written pseudo front back payload) ≡ length front + (2 + length back)
@@ -14,6 +14,10 @@ length-sealed written pseudo front back payload = length-append front _ ∙ omeg
 pub length-ipv4_front : (tos total id frag ttl proto : ℕ) → length (ipv4_front tos total id frag ttl proto) ≡ 10
 unfolding ipv4_front
 length-ipv4_front tos total id frag ttl proto = refl
+
+pub length-ipv6_front : (class label len next hop : ℕ) → length (ipv6_front class label len next hop) ≡ 8
+unfolding ipv6_front
+length-ipv6_front class label len next hop = refl
 
 pub length-tcp_front : (sport dport seq ack flags window : ℕ) → length (tcp_front sport dport seq ack flags window) ≡ 16
 unfolding tcp_front
@@ -28,6 +32,9 @@ pub length-header_of : (before : Option Layer) (one : Layer) (next : Option Laye
 length-header_of before (Ethernet dst src etype) next payload = grind (arith, length-append)
 length-header_of before (Vlan tci etype) next payload = refl
 length-header_of before (Ipv4 tos id frag ttl proto src dst) next payload = length-sealed _ _ _ _ _ ∙ omega (arith, length-ipv4_front)
+length-header_of before (Ipv6 class label hop own src dst) next payload =
+    length-append (ipv6_front class label (length payload) (protocol_before next own) hop) (src ++ dst)
+    ∙ omega (arith, length-ipv6_front class label (length payload) (protocol_before next own) hop, length-append src dst)
 length-header_of before (Tcp sport dport seq ack flags window) next payload = length-sealed _ _ _ _ _ ∙ omega (arith, length-tcp_front)
 length-header_of before (Udp sport dport) next payload = length-sealed _ _ _ _ _ ∙ omega (arith, length-udp_front)
 length-header_of before (Raw bytes) next payload = refl

@@ -1,33 +1,20 @@
 // The header of each layer.
 
-ghost use Rattle.std.specs.Prelude.{◌≡◌, ◌+◌, ◌^◌, ◌<◌, ◌≤◌, ◌++◌, [], length, option_map};
+ghost use Rattle.std.specs.Prelude.{◌≡◌, ◌+◌, ◌≤◌, ◌++◌, [], length, option_map};
 ghost use Rattle.byteorder.specs.Endian.{big_bytes};
-ghost use Rattle.trex_sum.specs.Checksum.{sum_of};
-ghost use Rattle.trex_build.specs.Built.{header_length};
-ghost use Rattle.trex_build.specs.Header.{addresses, addresses_of, header_of, ipv4_front, ones_for_zero, protocol_before, pseudo_header, sealed, tcp_back, tcp_front, type_before, udp_front};
-ghost use Rattle.trex_build.specs.Layer.{layer};
+ghost use Rattle.trex_sum.specs.Checksum.{ones_for_zero};
+ghost use Rattle.trex_headers.specs.Built.{header_length};
+ghost use Rattle.trex_headers.specs.Header.{header_of, ipv4_front, ipv6_front, protocol_before, pseudo_header, sealed, tcp_back, tcp_front, type_before, udp_front};
+ghost use Rattle.trex_headers.specs.Layer.{layer_of};
 
-use crate::layer::LayerSpec;
+use crate::constants::{IPV6_SOURCE_AT, TYPE_IPV6};
+use crate::layer::LayerView;
+use crate::pseudo::{addresses, pseudo_sum};
 use byteorder::{BigEndian, ByteOrder};
-use trex_sum::{fold, sum_words};
-
-const TYPE_LEN: usize = 2;
-
-const VLAN_LEN: usize = 4;
-
-const IPV4_LEN: usize = 20;
-
-const TCP_LEN: usize = 20;
-
-const UDP_LEN: usize = 8;
-
-const TYPE_VLAN: u16 = 0x8100;
-
-const TYPE_IPV4: u16 = 0x0800;
-
-const PROTOCOL_TCP: u8 = 6;
-
-const PROTOCOL_UDP: u8 = 17;
+use trex_layers::{
+    IPV4_LEN, PROTOCOL_TCP, PROTOCOL_UDP, TAG_LEN, TCP_LEN, TYPE_IPV4, TYPE_LEN, TYPE_VLAN, UDP_LEN,
+};
+use trex_sum::{ALL_ONES, fold, ones_for_zero, sum_words};
 
 /// Version 4, and a header of 5 words of 4 bytes.
 const IPV4_FIRST: u8 = 0x45;
@@ -35,72 +22,60 @@ const IPV4_FIRST: u8 = 0x45;
 /// A TCP header of 5 words of 4 bytes.
 const TCP_OFFSET: u8 = 0x50;
 
-const ALL_ONES: u16 = 0xffff;
+/// Version 6, in the highest bits of the header's first 4 bytes.
+const IPV6_VERSION: u32 = 0x6000_0000;
 
-/// The length of a station's address, in bytes.
-fn mac_length(mac: &[u8; 6]) -> usize
-    ensures value { result ≡ length mac.now }
-    ensures fixed { result ≡ 6 }
+/// One of the traffic class, which stands behind the version.
+const IPV6_CLASS: u32 = 0x10_0000;
+
+/// The length of an address, in bytes.
+fn address_length<const N: usize>(address: &[u8; N]) -> usize
+    ensures value { result ≡ length address.now }
+    ensures fixed { result ≡ N }
 {
-    mac.len()
+    address.len()
 }
 
 /// The length of a layer's header, in bytes.
-pub(crate) fn header_length(one: &LayerSpec) -> usize
-    ensures { result ≡ header_length (layer one.now) }
+pub(crate) fn header_length(one: &LayerView<'_>) -> usize
+    ensures { result ≡ header_length (layer_of one.now) }
 {
     match one {
-        LayerSpec::Ethernet { dst, src, .. } => mac_length(dst) + mac_length(src) + TYPE_LEN,
-        LayerSpec::Vlan { .. } => VLAN_LEN,
-        LayerSpec::Ipv4 { .. } => IPV4_LEN,
-        LayerSpec::Tcp { .. } => TCP_LEN,
-        LayerSpec::Udp { .. } => UDP_LEN,
-        LayerSpec::Raw { bytes } => bytes.len(),
+        LayerView::Ethernet { dst, src, .. } => address_length(dst)
+            + address_length(src)
+            + TYPE_LEN,
+        LayerView::Vlan { .. } => TAG_LEN,
+        LayerView::Ipv4 { .. } => IPV4_LEN,
+        LayerView::Ipv6 { src, dst, .. } => {
+            IPV6_SOURCE_AT + (address_length(src) + address_length(dst))
+        }
+        LayerView::Tcp { .. } => TCP_LEN,
+        LayerView::Udp { .. } => UDP_LEN,
+        LayerView::Raw { bytes } => bytes.len(),
     }
 }
 
 /// The type in the header before a layer.
-fn type_before(next: Option<&LayerSpec>, own: u16) -> u16
-    ensures { result ≡ type_before (option_map (λ one. layer one.now) next.entry) own }
+fn type_before(next: Option<&LayerView<'_>>, own: u16) -> u16
+    ensures { result ≡ type_before (option_map (λ one. layer_of one.now) next.entry) own }
 {
     match next {
-        Some(LayerSpec::Vlan { .. }) => TYPE_VLAN,
-        Some(LayerSpec::Ipv4 { .. }) => TYPE_IPV4,
+        Some(LayerView::Vlan { .. }) => TYPE_VLAN,
+        Some(LayerView::Ipv4 { .. }) => TYPE_IPV4,
+        Some(LayerView::Ipv6 { .. }) => TYPE_IPV6,
         _ => own,
     }
 }
 
-/// The protocol in the IPv4 header before a layer.
-fn protocol_before(next: Option<&LayerSpec>, own: u8) -> u8
-    ensures { result ≡ protocol_before (option_map (λ one. layer one.now) next.entry) own }
+/// The protocol in the IPv4 header before a layer, or the next header in the IPv6 header.
+fn protocol_before(next: Option<&LayerView<'_>>, own: u8) -> u8
+    ensures { result ≡ protocol_before (option_map (λ one. layer_of one.now) next.entry) own }
 {
     match next {
-        Some(LayerSpec::Tcp { .. }) => PROTOCOL_TCP,
-        Some(LayerSpec::Udp { .. }) => PROTOCOL_UDP,
+        Some(LayerView::Tcp { .. }) => PROTOCOL_TCP,
+        Some(LayerView::Udp { .. }) => PROTOCOL_UDP,
         _ => own,
     }
-}
-
-/// Two addresses in network byte order.
-fn addresses(src: u32, dst: u32) -> [u8; 8]
-    ensures { result ≡ addresses src dst }
-{
-    let mut bytes = [0; 8];
-    BigEndian::write_u32(&mut bytes, src);
-    BigEndian::write_u32(&mut bytes[4..], dst);
-    bytes
-}
-
-/// The sum of the pseudo header of a segment of `len` bytes, whose addresses are those of an IPv4 header directly before.
-fn pseudo_sum(before: Option<&LayerSpec>, protocol: u8, len: u16) -> u64
-    ensures value { result ≡ sum_of (pseudo_header (addresses_of (option_map (λ one. layer one.now) before.entry)) protocol len) }
-    ensures bound { result < 2 ^ 32 }
-{
-    let ends = match before {
-        Some(LayerSpec::Ipv4 { src, dst, .. }) => sum_words(&addresses(*src, *dst)),
-        _ => 0,
-    };
-    ends + u64::from(protocol) + u64::from(len)
 }
 
 /// An IPv4 header up to its checksum.
@@ -116,6 +91,20 @@ fn ipv4_front(tos: u8, total: u16, id: u16, frag: u16, ttl: u8, proto: u8) -> [u
     BigEndian::write_u16(&mut bytes[6..], frag);
     bytes[8] = ttl;
     bytes[9] = proto;
+    bytes
+}
+
+/// An IPv6 header up to its addresses, given the length of what follows it.
+#[tactic(auto, unfolding(crate::specs::Header::ipv6_front))]
+fn ipv6_front(class: u8, label: u32, len: u16, next: u8, hop: u8) -> [u8; 8]
+    ensures { result ≡ ipv6_front class label len next hop }
+{
+    let mut bytes = [0; 8];
+    let first = IPV6_VERSION + IPV6_CLASS * u32::from(class) + label % IPV6_CLASS;
+    BigEndian::write_u32(&mut bytes, first);
+    BigEndian::write_u16(&mut bytes[4..], len);
+    bytes[6] = next;
+    bytes[7] = hop;
     bytes
 }
 
@@ -191,12 +180,24 @@ fn write_ipv4(header: &mut [u8], front: &[u8; 10], ends: &[u8; 8])
     write_sealed(header, front, ALL_ONES - fold(sum), ends);
 }
 
+/// Writes an IPv6 header, given its fields before the addresses.
+fn write_ipv6(header: &mut [u8], front: &[u8; 8], src: &[u8; 16], dst: &[u8; 16])
+    requires { length header.old ≡ 8 + (length src.now + length dst.now) }
+    ensures { header.new ≡ front.now ++ (src.now ++ dst.now) }
+{
+    let (start, ends) = header.split_at_mut(IPV6_SOURCE_AT);
+    let (from, to) = ends.split_at_mut(16);
+    start.copy_from_slice(front);
+    from.copy_from_slice(src);
+    to.copy_from_slice(dst);
+}
+
 /// Writes a TCP header, given its fields before the checksum.
 #[tactic(auto, unfolding(crate::specs::Header::sealed))]
-fn write_tcp(header: &mut [u8], before: Option<&LayerSpec>, front: &[u8; 16], payload: &[u8])
+fn write_tcp(header: &mut [u8], before: Option<&LayerView<'_>>, front: &[u8; 16], payload: &[u8])
     requires long { length header.old ≡ 20 }
     requires short { length payload.now ≤ 9216 }
-    ensures { header.new ≡ sealed (λ n. n) (pseudo_header (addresses_of (option_map (λ one. layer one.now) before.entry)) 6 (20 + length payload.now))
+    ensures { header.new ≡ sealed (λ n. n) (pseudo_header (option_map (λ one. layer_of one.now) before.entry) 6 (20 + length payload.now))
         front.now tcp_back payload.now }
 {
     let len = (TCP_LEN + payload.len()) as u16;
@@ -204,19 +205,12 @@ fn write_tcp(header: &mut [u8], before: Option<&LayerSpec>, front: &[u8; 16], pa
     write_sealed(header, front, ALL_ONES - fold(sum), &[0, 0]);
 }
 
-/// A UDP checksum as it is written: zero stands for none, so all ones are written in its place.
-fn ones_for_zero(checksum: u16) -> u16
-    ensures { result ≡ ones_for_zero checksum }
-{
-    if checksum == 0 { ALL_ONES } else { checksum }
-}
-
 /// Writes a UDP header, given its fields before the checksum.
 #[tactic(auto, unfolding(crate::specs::Header::sealed))]
-fn write_udp(header: &mut [u8], before: Option<&LayerSpec>, front: &[u8; 6], payload: &[u8])
+fn write_udp(header: &mut [u8], before: Option<&LayerView<'_>>, front: &[u8; 6], payload: &[u8])
     requires long { length header.old ≡ 8 }
     requires short { length payload.now ≤ 9216 }
-    ensures { header.new ≡ sealed ones_for_zero (pseudo_header (addresses_of (option_map (λ one. layer one.now) before.entry)) 17 (8 + length payload.now))
+    ensures { header.new ≡ sealed ones_for_zero (pseudo_header (option_map (λ one. layer_of one.now) before.entry) 17 (8 + length payload.now))
         front.now [] payload.now }
 {
     let len = (UDP_LEN + payload.len()) as u16;
@@ -227,22 +221,22 @@ fn write_udp(header: &mut [u8], before: Option<&LayerSpec>, front: &[u8; 6], pay
 /// Writes the header of a layer, given the layer before it, the layer that follows and all bytes that follow.
 pub(crate) fn write_header(
     header: &mut [u8],
-    before: Option<&LayerSpec>,
-    one: &LayerSpec,
-    next: Option<&LayerSpec>,
+    before: Option<&LayerView<'_>>,
+    one: &LayerView<'_>,
+    next: Option<&LayerView<'_>>,
     payload: &[u8],
 )
-    requires long { length header.old ≡ header_length (layer one.now) }
+    requires long { length header.old ≡ header_length (layer_of one.now) }
     requires short { length payload.now ≤ 9216 }
-    ensures { header.new ≡ header_of (option_map (λ other. layer other.now) before.entry) (layer one.now)
-        (option_map (λ other. layer other.now) next.entry) payload.now }
+    ensures { header.new ≡ header_of (option_map (λ other. layer_of other.now) before.entry) (layer_of one.now)
+        (option_map (λ other. layer_of other.now) next.entry) payload.now }
 {
     match one {
-        LayerSpec::Ethernet { dst, src, etype } => {
+        LayerView::Ethernet { dst, src, etype } => {
             write_ethernet(header, dst, src, type_before(next, *etype));
         }
-        LayerSpec::Vlan { tci, etype } => write_tag(header, *tci, type_before(next, *etype)),
-        LayerSpec::Ipv4 {
+        LayerView::Vlan { tci, etype } => write_tag(header, *tci, type_before(next, *etype)),
+        LayerView::Ipv4 {
             tos,
             id,
             frag,
@@ -256,7 +250,19 @@ pub(crate) fn write_header(
             let front = ipv4_front(*tos, total, *id, *frag, *ttl, protocol);
             write_ipv4(header, &front, &addresses(*src, *dst));
         }
-        LayerSpec::Tcp {
+        LayerView::Ipv6 {
+            class,
+            label,
+            hop,
+            next: own,
+            src,
+            dst,
+        } => {
+            let len = payload.len() as u16;
+            let front = ipv6_front(*class, *label, len, protocol_before(next, *own), *hop);
+            write_ipv6(header, &front, src, dst);
+        }
+        LayerView::Tcp {
             sport,
             dport,
             seq,
@@ -267,10 +273,10 @@ pub(crate) fn write_header(
             let front = tcp_front(*sport, *dport, *seq, *ack, *flags, *window);
             write_tcp(header, before, &front, payload);
         }
-        LayerSpec::Udp { sport, dport } => {
+        LayerView::Udp { sport, dport } => {
             let len = (UDP_LEN + payload.len()) as u16;
             write_udp(header, before, &udp_front(*sport, *dport, len), payload);
         }
-        LayerSpec::Raw { bytes } => header.copy_from_slice(bytes),
+        LayerView::Raw { bytes } => header.copy_from_slice(bytes),
     }
 }
