@@ -11,5 +11,5 @@ pub use constants::{
     ETHERNET_LEN, IPV4_LEN, IPV4_PROTOCOL_AT, IPV4_SOURCE_AT, PROTOCOL_TCP, PROTOCOL_UDP, TAG_LEN,
     TCP_LEN, TYPE_IPV4, TYPE_LEN, TYPE_VLAN, UDP_LEN,
 };
-pub use parsing::{ipv4_at, parse};
+pub use parsing::{behind_tags, has_bytes, ipv4_at, parse, tags_in, type_after};
 pub use places::{Ipv4Place, L4Place, Layers};
