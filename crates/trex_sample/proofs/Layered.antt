@@ -23,7 +23,7 @@ network-same payload = refl
 
 -- the UDP header
 segment-same : (pad : ℕ) → header_of (Some network) segment (Some (Raw (zeros pad))) (zeros pad) ≡ udp pad
-unfolding udp udp_sum sealed udp_front
+unfolding udp udp_sum sealed udp_front pseudo_ipv4
 segment-same pad =
     ap (λ n. sealed ones_for_zero (pseudo_ipv4 (addresses 268435457 805306369) 17 (8 + n)) (udp_front 1025 12 (8 + n)) [] (zeros pad)) (length-replicate pad 0)
 
