@@ -4,7 +4,7 @@ ghost use Rattle.std.specs.Prelude.{◌≡◌, IfOk, map};
 ghost use Rattle.trex_build.specs.Layer.{layer, layer_of};
 
 use std::alloc::{AllocError, Global};
-use trex_headers::LayerView;
+use trex_headers::{LayerView, lend};
 
 /// A layer of a packet. Lengths, checksums and the numbers that name the layer behind are filled in where the packet is built.
 #[derive(Debug, Drop)]
@@ -55,16 +55,7 @@ pub enum LayerSpec {
 fn view(one: &LayerSpec) -> LayerView<'_>
     ensures { layer_of result ≡ layer one.now }
 {
-    match one {
-        LayerSpec::Ethernet { dst, src, etype } => LayerView::Ethernet {
-            dst,
-            src,
-            etype: *etype,
-        },
-        LayerSpec::Vlan { tci, etype } => LayerView::Vlan {
-            tci: *tci,
-            etype: *etype,
-        },
+    lend!(one, LayerSpec,
         LayerSpec::Ipv4 {
             tos,
             id,
@@ -82,27 +73,7 @@ fn view(one: &LayerSpec) -> LayerView<'_>
             src: *src,
             dst: *dst,
         },
-        LayerSpec::Tcp {
-            sport,
-            dport,
-            seq,
-            ack,
-            flags,
-            window,
-        } => LayerView::Tcp {
-            sport: *sport,
-            dport: *dport,
-            seq: *seq,
-            ack: *ack,
-            flags: *flags,
-            window: *window,
-        },
-        LayerSpec::Udp { sport, dport } => LayerView::Udp {
-            sport: *sport,
-            dport: *dport,
-        },
-        LayerSpec::Raw { bytes } => LayerView::Raw { bytes },
-    }
+    )
 }
 
 /// Layers, lent.

@@ -6,6 +6,7 @@ mod constants;
 mod header;
 mod laws;
 mod layer;
+mod lending;
 mod order;
 mod pseudo;
 #[cfg(test)]

@@ -4,7 +4,7 @@ ghost use Rattle.std.specs.Prelude.{◌≡◌, IfOk, map};
 ghost use Rattle.trex_ipv6.specs.Layer.{layer6, layer_of};
 
 use std::alloc::{AllocError, Global};
-use trex_headers::LayerView;
+use trex_headers::{LayerView, lend};
 
 /// A layer of a packet. Lengths, checksums and the numbers that name the layer behind are filled in where the packet is built.
 #[derive(Debug, Drop)]
@@ -54,16 +54,7 @@ pub enum Layer6 {
 fn view(one: &Layer6) -> LayerView<'_>
     ensures { layer_of result ≡ layer6 one.now }
 {
-    match one {
-        Layer6::Ethernet { dst, src, etype } => LayerView::Ethernet {
-            dst,
-            src,
-            etype: *etype,
-        },
-        Layer6::Vlan { tci, etype } => LayerView::Vlan {
-            tci: *tci,
-            etype: *etype,
-        },
+    lend!(one, Layer6,
         Layer6::Ipv6 {
             class,
             label,
@@ -79,27 +70,7 @@ fn view(one: &Layer6) -> LayerView<'_>
             src,
             dst,
         },
-        Layer6::Tcp {
-            sport,
-            dport,
-            seq,
-            ack,
-            flags,
-            window,
-        } => LayerView::Tcp {
-            sport: *sport,
-            dport: *dport,
-            seq: *seq,
-            ack: *ack,
-            flags: *flags,
-            window: *window,
-        },
-        Layer6::Udp { sport, dport } => LayerView::Udp {
-            sport: *sport,
-            dport: *dport,
-        },
-        Layer6::Raw { bytes } => LayerView::Raw { bytes },
-    }
+    )
 }
 
 /// Layers, lent.
