@@ -1,5 +1,3 @@
 pub mod Layer
 pub mod Order
-pub mod Header
 pub mod Built
-pub mod Verified

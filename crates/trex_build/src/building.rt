@@ -1,68 +1,12 @@
-// The packet of some layers.
+// The packet of some layers over IPv4.
 
-ghost use Rattle.std.specs.Prelude.{◌≡◌, ◌+◌, ◌≤◌, length, map, option_map, sum_by, nat_le, if◌then◌else◌, Some, None};
-ghost use Rattle.trex_build.specs.Built.{Builds, bytes_behind, header_length};
+ghost use Rattle.std.specs.Prelude.{map};
+ghost use Rattle.trex_build.specs.Built.{Builds};
 ghost use Rattle.trex_build.specs.Layer.{layer};
 
-use crate::header::{header_length, write_header};
-use crate::layer::LayerSpec;
-use crate::order::misplaced;
-use std::alloc::{AllocError, Global};
-use thiserror::Error;
-use trex_layers::LONGEST_PACKET;
-
-/// Why layers give no packet.
-#[derive(Clone, Copy, Debug, PartialEq, Eq, Drop, Error)]
-pub enum BuildFault {
-    /// The place of the first layer that can't stand where it does; 0 where there is no layer.
-    #[error("layer {at} can't stand there")]
-    Order { at: usize },
-    /// The order is right, and the packet has more than 9,216 bytes.
-    #[error("more than 9216 bytes")]
-    TooLong,
-    /// There was no memory for the packet.
-    #[error("out of memory")]
-    Memory,
-}
-
-impl From<AllocError> for BuildFault {
-    ghost use Rattle.std.specs.Prelude.{◌≡◌};
-    ghost use Rattle.trex_build.specs.declared.building.BuildFault.{BuildFault};
-
-    ghost from_gives = { λ _ fault. fault ≡ BuildFault.Memory };
-
-    fn from(_error: AllocError) -> BuildFault {
-        BuildFault::Memory
-    }
-}
-
-/// The length of the packet of some layers, where it isn't too long.
-fn packet_length(layers: &[LayerSpec]) -> Option<usize>
-    ensures { let length = sum_by header_length (map layer layers.now) in result ≡ (if nat_le length LONGEST_PACKET then Some length else None) }
-{
-    let mut length = 0;
-    for one in layers {
-        let header = header_length(one);
-        if header > LONGEST_PACKET - length {
-            return None;
-        }
-        length += header;
-    }
-    Some(length)
-}
-
-/// Writes layers behind another one: each header before what it carries.
-fn write_layers(out: &mut [u8], before: Option<&LayerSpec>, layers: &[LayerSpec])
-    requires room { length out.old ≡ sum_by header_length (map layer layers.now) }
-    requires short { length out.old ≤ LONGEST_PACKET }
-    ensures { out.new ≡ bytes_behind (option_map (λ one. layer one.now) before.entry) (map layer layers.now) }
-{
-    if let [one, later @ ..] = layers {
-        let (header, payload) = out.split_at_mut(header_length(one));
-        write_layers(payload, Some(one), later);
-        write_header(header, before, one, later.first(), payload);
-    }
-}
+use crate::layer::{LayerSpec, views};
+use std::alloc::Global;
+use trex_headers::{BuildFault, Version};
 
 /// Builds the packet of some layers. The first layer is Ethernet; behind it come at most two tags, then at most one IPv4 header, then
 /// at most one TCP or UDP header, which stands only behind IPv4, and then at most one payload. `Order` comes exactly where a layer can't
@@ -73,13 +17,6 @@ fn write_layers(out: &mut [u8], before: Option<&LayerSpec>, layers: &[LayerSpec]
 pub fn build(alloc: Global, layers: &[LayerSpec]) -> Result<Vec<u8>, BuildFault>
     ensures { Builds (λ packet. packet.items) result (map layer layers.now) }
 {
-    if let Some(at) = misplaced(layers) {
-        return Err(BuildFault::Order { at });
-    }
-    let Some(length) = packet_length(layers) else {
-        return Err(BuildFault::TooLong);
-    };
-    let mut packet = vec![in alloc; 0; length]?;
-    write_layers(&mut packet, None, layers);
-    Ok(packet)
+    let views = views(alloc, layers)?;
+    trex_headers::build(alloc, Version::V4, &views)
 }

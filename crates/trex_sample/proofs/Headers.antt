@@ -4,10 +4,9 @@ use Rattle.std.specs.Prelude.{slice_index}
 use Rattle.std.proofs.lemmas.Bool.Decides.{nat_tests}
 use Rattle.std.proofs.lemmas.List.{length-replicate}
 use Rattle.trex_layers.specs.declared.sizes.TheConstants.{LONGEST_PACKET}
-use Rattle.trex_sum.specs.Checksum.{sum_of, fold_of}
-use Rattle.trex_vm.specs.declared.instr.L4Kind.TheVariants.{Udp}
-use Rattle.trex_vm.specs.Fix.{written_sum}
-use Rattle.trex_sample.specs.Template.{pseudo_header, udp_with, ipv4, udp_sum, udp, zeros, template}
+use Rattle.trex_sum.specs.Checksum.{sum_of, fold_of, ones_for_zero}
+use Rattle.trex_headers.specs.Header.{pseudo_ipv4}
+use Rattle.trex_sample.specs.Template.{addresses, udp_with, ipv4, udp_sum, udp, zeros, template}
 
 -- the headers on which fixes rest: version 4 and five words, UDP, and a whole UDP header
 pub record IsHeaded (bytes : List ℕ) : Type 0 where
@@ -30,16 +29,17 @@ sum-zeros (suc zero) = refl
 sum-zeros (suc (suc n)) = let rest = sum-zeros n in omega arith
 
 -- the sum of a segment's words, of which the zeros add nothing
-segment-sum : (pad : ℕ) → sum_of (pseudo_header (8 + pad) ++ udp_with (8 + pad) 0 ++ zeros pad) ≡ sum_of (pseudo_header (8 + pad)) + sum_of (udp_with (8 + pad) 0)
+segment-sum : (pad : ℕ) → sum_of (pseudo_ipv4 addresses 17 (8 + pad) ++ udp_with (8 + pad) 0 ++ zeros pad) ≡ sum_of (pseudo_ipv4 addresses 17 (8 + pad)) + sum_of (udp_with (8 + pad) 0)
+unfolding pseudo_ipv4
 segment-sum pad = let none = sum-zeros pad in omega arith
 
 -- a sum that is no more than its fold doesn't come out as zero
-some-checksum : (s : ℕ) → 0 < s → s < 65535 → written_sum Udp (65535 - fold_of s) ≡ 65535 - fold_of s
+some-checksum : (s : ℕ) → 0 < s → s < 65535 → ones_for_zero (65535 - fold_of s) ≡ 65535 - fold_of s
 unfolding fold_of
 some-checksum s some small = grind (arith, nat_tests)
 
-pub udp_sum-is : (pad s : ℕ) → pad ≤ 1018 → s ≡ sum_of (pseudo_header (8 + pad)) + sum_of (udp_with (8 + pad) 0) → 65535 - fold_of s ≡ udp_sum pad
-unfolding udp_sum
+pub udp_sum-is : (pad s : ℕ) → pad ≤ 1018 → s ≡ sum_of (pseudo_ipv4 addresses 17 (8 + pad)) + sum_of (udp_with (8 + pad) 0) → 65535 - fold_of s ≡ udp_sum pad
+unfolding udp_sum pseudo_ipv4
 udp_sum-is pad s small is =
-    let whole : sum_of (pseudo_header (8 + pad) ++ udp_with (8 + pad) 0 ++ zeros pad) ≡ s = segment-sum pad ∙ sym is in
+    let whole : sum_of (pseudo_ipv4 addresses 17 (8 + pad) ++ udp_with (8 + pad) 0 ++ zeros pad) ≡ s = segment-sum pad ∙ sym is in
     rw whole (sym (some-checksum s (omega arith) (omega arith)))

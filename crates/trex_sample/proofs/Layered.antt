@@ -1,9 +1,10 @@
 -- The sample's template as the packet of its layers.
 use Rattle.std.proofs.Common.{◌≡◌, ℕ, ◌+◌, List, [], ◌∷◌, ◌++◌, length, Some, refl, sym, ap, ◌∙◌, arith, append-nil}
 use Rattle.std.proofs.lemmas.List.{length-replicate}
-use Rattle.trex_build.specs.Layer.{Layer, Ethernet, Ipv4, Udp, Raw}
-use Rattle.trex_build.specs.Header.{addresses, header_of, ipv4_front, ones_for_zero, pseudo_header, sealed, udp_front}
-use Rattle.trex_build.specs.Built.{built}
+use Rattle.trex_headers.specs.Layer.{Layer, Ethernet, Ipv4, Udp, Raw}
+use Rattle.trex_sum.specs.Checksum.{ones_for_zero}
+use Rattle.trex_headers.specs.Header.{addresses, header_of, ipv4_front, pseudo_ipv4, sealed, udp_front}
+use Rattle.trex_headers.specs.Built.{built}
 use Rattle.trex_sample.specs.Template.{ethernet, ipv4, udp, udp_sum, zeros, template, layers}
 
 abbrev link : Layer
@@ -22,9 +23,9 @@ network-same payload = refl
 
 -- the UDP header
 segment-same : (pad : ℕ) → header_of (Some network) segment (Some (Raw (zeros pad))) (zeros pad) ≡ udp pad
-unfolding udp udp_sum sealed udp_front
+unfolding udp udp_sum sealed udp_front pseudo_ipv4
 segment-same pad =
-    ap (λ n. sealed ones_for_zero (pseudo_header (addresses 268435457 805306369) 17 (8 + n)) (udp_front 1025 12 (8 + n)) [] (zeros pad)) (length-replicate pad 0)
+    ap (λ n. sealed ones_for_zero (pseudo_ipv4 (addresses 268435457 805306369) 17 (8 + n)) (udp_front 1025 12 (8 + n)) [] (zeros pad)) (length-replicate pad 0)
 
 total : (pad : ℕ) → 20 + length (udp pad ++ zeros pad) ≡ 28 + pad
 unfolding udp

@@ -1,16 +1,11 @@
 -- The bytes that each stream of the sample sends: Ethernet (IEEE 802.3), IPv4 (RFC 791, section 3.1), UDP (RFC 768) and zeros behind them.
 -- Which addresses and ports they have is the sample's own.
-use Rattle.std.specs.Prelude.{ℕ, ◌+◌, ◌-◌, List, [], ◌∷◌, ◌++◌}
+use Rattle.std.specs.Prelude.{ℕ, ◌+◌, List, [], ◌∷◌, ◌++◌}
 use Rattle.std.proofs.Math.ListN.{replicate}
 use Rattle.byteorder.specs.Endian.{big_bytes}
-use Rattle.trex_sum.specs.Checksum.{sum_of, fold_of}
-use Rattle.trex_build.specs.Layer.{Layer, Ethernet, Ipv4, Udp, Raw}
-use Rattle.trex_vm.specs.declared.instr.L4Kind.TheVariants.{Udp as UdpSegment}
-use Rattle.trex_vm.specs.Fix.{written_sum}
-
--- the checksum of some bytes: the complement of their sum's fold (RFC 1071, section 1)
-abbrev pub checksum : List ℕ → ℕ
-checksum bytes = 65535 - fold_of (sum_of bytes)
+use Rattle.trex_sum.specs.Checksum.{checksum_of, ones_for_zero}
+use Rattle.trex_headers.specs.Header.{pseudo_ipv4}
+use Rattle.trex_headers.specs.Layer.{Layer, Ethernet, Ipv4, Udp, Raw}
 
 -- the Ethernet header from 02:00:00:00:00:01 to 02:00:00:00:00:02, with the type of IPv4
 abbrev pub ethernet : List ℕ
@@ -26,15 +21,11 @@ ipv4_with total sum = (69 ∷ 0 ∷ []) ++ big_bytes 2 total ++ (0 ∷ 0 ∷ 0 �
 
 -- the same with its checksum
 unfoldable pub ipv4 : ℕ → List ℕ
-ipv4 total = ipv4_with total (checksum (ipv4_with total 0))
+ipv4 total = ipv4_with total (checksum_of (ipv4_with total 0))
 
 -- the UDP header from port 1025 to port 12 of a segment's length, with a number in its checksum field
 abbrev pub udp_with : ℕ → ℕ → List ℕ
 udp_with segment sum = (4 ∷ 1 ∷ 0 ∷ 12 ∷ []) ++ big_bytes 2 segment ++ big_bytes 2 sum
-
--- the pseudo header of a segment's length: the addresses, zero, the protocol and the length
-abbrev pub pseudo_header : ℕ → List ℕ
-pseudo_header segment = addresses ++ (0 ∷ 17 ∷ []) ++ big_bytes 2 segment
 
 -- so many zeros
 abbrev pub zeros : ℕ → List ℕ
@@ -42,7 +33,7 @@ zeros count = replicate count 0
 
 -- the checksum of a UDP segment of so many zeros, over the pseudo header, the header and the zeros; all ones stand for none
 unfoldable pub udp_sum : ℕ → ℕ
-udp_sum pad = written_sum UdpSegment (checksum (pseudo_header (8 + pad) ++ udp_with (8 + pad) 0 ++ zeros pad))
+udp_sum pad = ones_for_zero (checksum_of (pseudo_ipv4 addresses 17 (8 + pad) ++ udp_with (8 + pad) 0 ++ zeros pad))
 
 -- the UDP header in front of so many zeros, with its checksum
 unfoldable pub udp : ℕ → List ℕ

@@ -1,7 +1,7 @@
 // The laws of samples.
 
 ghost use Rattle.std.specs.Prelude.{◌≡◌, ℕ, None};
-ghost use Rattle.trex_build.specs.Built.{built};
+ghost use Rattle.trex_headers.specs.Built.{built};
 ghost use Rattle.trex_profile.specs.Admission.{refusal_of};
 ghost use Rattle.trex_sample.specs.Sampled.{sampled};
 ghost use Rattle.trex_sample.specs.Template.{layers, template};

@@ -10,15 +10,16 @@ use crate::template::template;
 use crate::word::word;
 use std::alloc::Global;
 use trex_io::Memory;
+use trex_layers::{ETHERNET_LEN, IPV4_LEN, IPV4_SOURCE_AT};
 use trex_profile::{Name, RateKind, RawInstr, RawPlace, RawRate, RawStream};
 use trex_sched::Mode;
 use trex_vars::Op;
 
 /// The place of the source address in an IPv4 header behind an Ethernet header.
-const SOURCE_ADDRESS: u64 = 26;
+const SOURCE_ADDRESS: u64 = (ETHERNET_LEN + IPV4_SOURCE_AT) as u64;
 
 /// The place of the source port in a UDP header behind both.
-const SOURCE_PORT: u64 = 34;
+const SOURCE_PORT: u64 = (ETHERNET_LEN + IPV4_LEN) as u64;
 
 const MILLION: u128 = 1_000_000;
 

@@ -6,23 +6,22 @@ ghost use Rattle.trex_sample.specs.Template.{ipv4, udp_sum, udp, template};
 use byteorder::{BigEndian, ByteOrder};
 use std::alloc::Global;
 use trex_io::Memory;
-use trex_sum::{fold, sum_words};
+use trex_layers::{ETHERNET_LEN, IPV4_LEN, UDP_LEN};
+use trex_sum::{ALL_ONES, fold, sum_words};
 
-// from 02:00:00:00:00:01 to 02:00:00:00:00:02, with the type of IPv4 (IEEE 802.3, section 3.2)
+/// From 02:00:00:00:00:01 to 02:00:00:00:00:02, with the type of IPv4 (IEEE 802.3, section 3.2).
 const ETHERNET: [u8; 14] = [2, 0, 0, 0, 0, 2, 2, 0, 0, 0, 0, 1, 8, 0];
 
-// the length of an IPv4 header without options (RFC 791, section 3.1)
-const IPV4_HEADER: u16 = 20;
+/// The length of the IPv4 header, as its fields have it.
+const IPV4_HEADER: u16 = IPV4_LEN as u16;
 
-// the length of a UDP header (RFC 768)
-const UDP_HEADER: u16 = 8;
+/// The length of the UDP header, as its fields have it.
+const UDP_HEADER: u16 = UDP_LEN as u16;
 
-// the length of the three headers
-const HEADERS: usize = 42;
+/// The length of the three headers.
+const HEADERS: usize = ETHERNET_LEN + IPV4_LEN + UDP_LEN;
 
-const ALL_ONES: u16 = 0xffff;
-
-// The IPv4 header in front of a UDP segment of so many bytes: from 16.0.0.1 to 48.0.0.1.
+/// The IPv4 header in front of a UDP segment of so many bytes: from 16.0.0.1 to 48.0.0.1.
 #[tactic(auto, unfolding(crate::specs::Template::ipv4))]
 fn ipv4(segment: u16) -> [u8; 20]
     requires { segment ≤ 1026 }
@@ -37,7 +36,7 @@ fn ipv4(segment: u16) -> [u8; 20]
     header
 }
 
-// The checksum of a UDP segment of so many zeros.
+/// The checksum of a UDP segment of so many zeros.
 #[tactic(auto, unfolding(crate::specs::Template::udp_sum))]
 fn udp_sum(pad: u16) -> u16
     requires { pad ≤ 1018 }
@@ -51,7 +50,7 @@ fn udp_sum(pad: u16) -> u16
     ALL_ONES - fold(sum_words(&pseudo_header) + sum_words(&header))
 }
 
-// The UDP header of a segment of so many zeros: from port 1025 to port 12.
+/// The UDP header of a segment of so many zeros: from port 1025 to port 12.
 #[tactic(auto, unfolding(crate::specs::Template::udp))]
 fn udp(pad: u16) -> [u8; 8]
     requires { pad ≤ 1018 }

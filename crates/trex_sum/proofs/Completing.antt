@@ -1,7 +1,7 @@
 -- Why a checksum among the words that it covers verifies.
-use Rattle.std.proofs.Common.{◌≡◌, ℕ, zero, suc, ◌+◌, ◌-◌, ◌*◌, ◌%◌, ◌<◌, ◌≤◌, ◌==◌, if◌then◌else◌, List, ◌∷◌, ◌++◌, length, refl, ap, ◌∙◌, arith}
+use Rattle.std.proofs.Common.{◌≡◌, ℕ, zero, suc, ◌+◌, ◌-◌, ◌*◌, ◌%◌, ◌<◌, ◌≤◌, List, ◌∷◌, ◌++◌, length, refl, ap, ◌∙◌, arith}
 use Rattle.std.proofs.lemmas.Bool.Decides.{nat_tests}
-use Rattle.trex_sum.specs.Checksum.{sum_of, fold_of}
+use Rattle.trex_sum.specs.Checksum.{sum_of, fold_of, ones_for_zero}
 use Rattle.trex_sum.proofs.SumLaws.{sum_of-append}
 
 -- what is written into the field makes every sum fold to all ones
@@ -18,7 +18,7 @@ unfolding fold_of
 fold_of-pos s = grind (arith, nat_tests)
 
 -- a sum with the complement of its fold added folds to all ones
-folds_up : (s n : ℕ) → n ≡ 65535 - fold_of s → fold_of (s + n) ≡ 65535
+pub folds_up : (s n : ℕ) → n ≡ 65535 - fold_of s → fold_of (s + n) ≡ 65535
 folds_up zero n is =
     let all : zero + n ≡ suc 65534 = omega (arith, fold_of-zero) in
     ap fold_of all ∙ fold_of-pos 65534
@@ -43,13 +43,11 @@ fold_of-bound (suc s) = omega (arith, fold_of-pos s)
 pub Completes-plain : Completes (λ n. n)
 Completes-plain = record { folds = λ s. folds_up s (65535 - fold_of s) refl; small = λ s. omega arith }
 
-abbrev ones_for_zero : ℕ → ℕ
-ones_for_zero n = if n == 0 then 65535 else n
-
 ones_for_zero-suc : (n : ℕ) → ones_for_zero (suc n) ≡ suc n
 ones_for_zero-suc n = grind (arith, nat_tests)
 
-ones_fold : (s n : ℕ) → n ≡ 65535 - fold_of s → fold_of (s + ones_for_zero n) ≡ 65535
+-- the complement, or all ones where it is zero, makes its sum fold to all ones
+pub ones_fold : (s n : ℕ) → n ≡ 65535 - fold_of s → fold_of (s + ones_for_zero n) ≡ 65535
 ones_fold s zero is = folds_over s (omega (arith, fold_of-bound s))
 ones_fold s (suc n) is = rw (ones_for_zero-suc n) (folds_up s (suc n) is)
 
@@ -58,7 +56,7 @@ ones_small zero below = omega arith
 ones_small (suc n) below = rw (ones_for_zero-suc n) below
 
 -- the complement, with all ones in place of zero
-pub Completes-ones_for_zero : Completes (λ n. if n == 0 then 65535 else n)
+pub Completes-ones_for_zero : Completes ones_for_zero
 Completes-ones_for_zero = record { folds = λ s. ones_fold s (65535 - fold_of s) refl; small = λ s. ones_small (65535 - fold_of s) (omega arith) }
 
 -- the sum of a part, by the number in its field

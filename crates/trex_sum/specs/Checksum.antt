@@ -14,3 +14,11 @@ fold_of s = if s == 0 then 0 else 1 + (s - 1) % 65535
 -- the sum folds to all ones, so the checksum among the summed words is right (RFC 1071, section 1)
 abbrev pub Verifies : ℕ → Type 0
 Verifies sum = fold_of sum ≡ 65535
+
+-- the checksum of some bytes: the complement of their folded sum (RFC 1071, section 1)
+abbrev pub checksum_of : List ℕ → ℕ
+checksum_of bytes = 65535 - fold_of (sum_of bytes)
+
+-- a UDP checksum as it is written: one that comes out as zero is all ones, since zero stands for none (RFC 768)
+abbrev pub ones_for_zero : ℕ → ℕ
+ones_for_zero n = if n == 0 then 65535 else n

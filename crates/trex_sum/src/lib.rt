@@ -7,4 +7,4 @@ mod sums;
 mod tests;
 
 pub use running::RunningSum;
-pub use sums::{fold, sum_words, verifies};
+pub use sums::{ALL_ONES, fold, ones_for_zero, sum_words, verifies};

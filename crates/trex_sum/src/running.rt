@@ -14,7 +14,7 @@ pub struct RunningSum {
     odd: bool,
 }
 
-// the sum of the bytes that follow, of which the first ends a word or begins one
+/// The sum of the bytes that follow, of which the first ends a word or begins one.
 fn sum_after(odd: bool, piece: &[u8]) -> u64
     requires { length piece.now < 2 ^ 40 }
     ensures value { result ≡ sum_of (if odd then 0 ∷ piece.now else piece.now) }

@@ -1,5 +1,10 @@
-ghost use Rattle.std.specs.Prelude.{◌≡◌, ◌*◌, ◌^◌, ◌<◌, ◌≤◌, ◌↔◌, IsTrue, length};
-ghost use Rattle.trex_sum.specs.Checksum.{sum_of, fold_of, Verifies};
+// Sums of words, their fold, and checksums as they are written.
+
+ghost use Rattle.std.specs.Prelude.{◌≡◌, ℕ, ◌+◌, ◌-◌, ◌*◌, ◌^◌, ◌<◌, ◌≤◌, ◌↔◌, IsTrue, length};
+ghost use Rattle.trex_sum.specs.Checksum.{sum_of, fold_of, ones_for_zero, Verifies};
+
+/// A sum that verifies folds to this, and a checksum is the rest that its words' fold leaves of it (RFC 1071, section 1).
+pub const ALL_ONES: u16 = 0xffff;
 
 /// The plain sum of the 16-bit big-endian words, an odd last byte padded with zero on the right (RFC 1071, section 1).
 ///
@@ -19,7 +24,7 @@ pub fn sum_words(bytes: &[u8]) -> u64
     total + sum_each_word(rest)
 }
 
-// the sum of four words, read as one number
+/// The sum of four words, read as one number.
 fn sum_four_words(bytes: &[u8]) -> u64
     requires { length bytes.now ≡ 8 }
     ensures value { result ≡ sum_of bytes.now }
@@ -31,7 +36,7 @@ fn sum_four_words(bytes: &[u8]) -> u64
     (word >> 48) + (word >> 32) % 65536 + (word >> 16) % 65536 + word % 65536
 }
 
-// the sum, word by word
+/// The sum, word by word.
 fn sum_each_word(bytes: &[u8]) -> u64
     requires { length bytes.now < 2 ^ 40 }
     ensures value { result ≡ sum_of bytes.now }
@@ -65,5 +70,14 @@ pub fn fold(sum: u64) -> u16
 pub fn verifies(sum: u64) -> bool
     ensures { IsTrue result ↔ Verifies sum }
 {
-    fold(sum) == 0xffff
+    fold(sum) == ALL_ONES
+}
+
+/// A UDP checksum as it is written: zero stands for none, so all ones are written in its place (RFC 768). A sum verifies with its
+/// checksum added also then.
+pub fn ones_for_zero(checksum: u16) -> u16
+    ensures value { result ≡ ones_for_zero checksum }
+    ensures verifies { (sum : ℕ) → checksum ≡ 65535 - fold_of sum → Verifies (sum + result) }
+{
+    if checksum == 0 { ALL_ONES } else { checksum }
 }

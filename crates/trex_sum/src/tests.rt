@@ -1,4 +1,4 @@
-use crate::{RunningSum, fold, sum_words, verifies};
+use crate::{RunningSum, fold, ones_for_zero, sum_words, verifies};
 
 // the numerical example of RFC 1071, section 3, whose sum is 2ddf0 and whose checksum is 220d
 #[test]
@@ -45,4 +45,11 @@ fn sums_bytes_that_go_by_in_pieces(rt: HostRuntime) {
         sum.add(piece);
     }
     assert_eq!(rt; sum.sum(), 0x2ddf0);
+}
+
+#[test]
+fn zero_alone_is_written_as_all_ones(rt: HostRuntime) {
+    for (checksum, written) in [(0, 0xffff), (1, 1), (0xa038, 0xa038), (0xffff, 0xffff)] {
+        assert_eq!(rt; ones_for_zero(checksum), written, "{checksum}");
+    }
 }

@@ -1,5 +1,0 @@
-use Rattle.std.proofs.Common.{length}
-use Rattle.trex_build.proofs.building.+write_layers.Given as goal
-
-abbrev pub decreases-write_layers : goal.decreases-write_layers
-decreases-write_layers l = length l.layers.now

@@ -1,0 +1,50 @@
+-- The sums of what a checksum covers.
+use Rattle.std.proofs.Common.{◌≡◌, ℕ, ◌+◌, ◌-◌, ◌%◌, ◌<◌, List, [], ◌∷◌, ◌++◌, length, ap, arith, length-append}
+use Rattle.byteorder.specs.Endian.{big_bytes}
+use Rattle.trex_sum.specs.Checksum.{sum_of, fold_of}
+use Rattle.trex_sum.proofs.SumLaws.{sum_of-append}
+use Rattle.trex_headers.specs.Header.{pseudo_ipv4, pseudo_ipv6, sealed}
+
+-- the parts of what a checksum covers, with zeros in its place, add up
+sum_of-covered : (pseudo front back payload : List ℕ) → length pseudo % 2 ≡ 0 → length front % 2 ≡ 0 → length back % 2 ≡ 0
+    → sum_of (pseudo ++ (front ++ ((0 ∷ 0 ∷ back) ++ payload))) ≡ sum_of pseudo + (sum_of front + (sum_of back + sum_of payload))
+sum_of-covered pseudo front back payload even even_front even_back =
+    let first = sum_of-append pseudo (front ++ ((0 ∷ 0 ∷ back) ++ payload)) even in
+    let second = sum_of-append front ((0 ∷ 0 ∷ back) ++ payload) even_front in
+    let third = sum_of-append back payload even_back in
+    omega arith
+
+-- a header is sealed by the sum of what its checksum covers
+pub sealed-by : (written : ℕ → ℕ) (pseudo front back payload : List ℕ) (sum : ℕ) → length pseudo % 2 ≡ 0 → length front % 2 ≡ 0 → length back % 2 ≡ 0
+    → sum ≡ sum_of pseudo + (sum_of front + (sum_of back + sum_of payload))
+    → front ++ (big_bytes 2 (written (65535 - fold_of sum)) ++ back) ≡ sealed written pseudo front back payload
+unfolding sealed
+sealed-by written pseudo front back payload sum even even_front even_back is =
+    let covered = sum_of-covered pseudo front back payload even even_front even_back in
+    let total : sum ≡ sum_of (pseudo ++ (front ++ ((0 ∷ 0 ∷ back) ++ payload))) = omega arith in
+    ap (λ (s : ℕ). front ++ (big_bytes 2 (written (65535 - fold_of s)) ++ back)) total
+
+-- the sum of the pseudo header over IPv6
+pub sum_of_pseudo_ipv6 : (src dst : List ℕ) (protocol len : ℕ) → length src ≡ 16 → length dst ≡ 16 → len < 65536
+    → sum_of (pseudo_ipv6 (src ++ dst) protocol len) ≡ sum_of src + sum_of dst + protocol + len
+unfolding pseudo_ipv6
+sum_of_pseudo_ipv6 src dst protocol len from to short =
+    let ends = sum_of-append src dst (omega arith) in
+    let long = length-append src dst in
+    let whole = sum_of-append (src ++ dst) (big_bytes 4 len ++ (0 ∷ 0 ∷ 0 ∷ protocol ∷ [])) (omega arith) in
+    omega arith
+
+pub length-pseudo_ipv4 : (ends : List ℕ) (protocol len : ℕ) → length (pseudo_ipv4 ends protocol len) ≡ length ends + 4
+unfolding pseudo_ipv4
+length-pseudo_ipv4 ends protocol len = length-append ends (0 ∷ protocol ∷ big_bytes 2 len)
+
+pub length-pseudo_ipv6 : (ends : List ℕ) (protocol len : ℕ) → length (pseudo_ipv6 ends protocol len) ≡ length ends + 8
+unfolding pseudo_ipv6
+length-pseudo_ipv6 ends protocol len = length-append ends (big_bytes 4 len ++ (0 ∷ 0 ∷ 0 ∷ protocol ∷ []))
+
+-- the pseudo header over IPv6 is whole words
+pub words_of_pseudo_ipv6 : (src dst : List ℕ) (protocol len : ℕ) → length src ≡ 16 → length dst ≡ 16 → length (pseudo_ipv6 (src ++ dst) protocol len) % 2 ≡ 0
+words_of_pseudo_ipv6 src dst protocol len from to =
+    let long = length-append src dst in
+    let whole = length-pseudo_ipv6 (src ++ dst) protocol len in
+    omega arith

@@ -1,0 +1,5 @@
+use Rattle.trex_headers.proofs.Verifying.{built-verifies}
+use Rattle.trex_headers.proofs.laws.headers_verify.Goals as goal
+
+pub returns : goal.returns
+returns c = built-verifies

@@ -1,0 +1,5 @@
+pub mod Layer
+pub mod Order
+pub mod Header
+pub mod Built
+pub mod Verified

@@ -1,0 +1,16 @@
+-- The packet of some layers over IPv6. Own.
+use Rattle.std.specs.Prelude.{ℕ, List, Result}
+pub use Rattle.trex_headers.specs.Built.{built, too_long}
+use Rattle.trex_headers.specs.declared.building.BuildFault.{BuildFault}
+use Rattle.trex_headers.specs.declared.layer.Version.TheVariants.{V6}
+use Rattle.trex_headers.specs.Layer.{Layer}
+use Rattle.trex_headers.specs.Built as headers
+use Rattle.trex_headers.specs.Verified as verified
+
+-- an answer is the packet, or else the first fault, unless memory ran out: the order is looked at, and then the length
+abbrev pub Builds : {X : Type 0} → (X → List ℕ) → Result X BuildFault → List Layer → Type 0
+Builds view result layers = headers.Builds view result V6 layers
+
+-- each UDP or TCP segment behind an IPv6 header of the packet of some layers verifies
+abbrev pub HeadersVerify : List Layer → List ℕ → Type 0
+HeadersVerify layers packet = verified.HeadersVerify V6 layers packet

@@ -1,0 +1,4 @@
+pub mod Layer
+pub mod Built
+pub mod Fields
+pub mod Address
