@@ -15,7 +15,7 @@ use Rattle.trex_words.specs.declared.asked.Usage.{Usage as WordsFault}
 use Rattle.trex_words.specs.Asked.{asked}
 use Rattle.trex_words.specs.Help.{help_text}
 use Rattle.trex_merge.specs.Frames.{Frame}
-use Rattle.trex_top.specs.Capture.{capture, sequence}
+use Rattle.trex_run.specs.Capture.{capture, sequence}
 use Rattle.trex_top.specs.Sample.{sample_sequence, sample_text}
 use Rattle.trex_top.specs.declared.command.Status.{Status}
 use Rattle.trex_top.specs.declared.command.Status.TheVariants.{Done, Usage, Refused, ReadFault, OutFault, NotesFault, BadCapture, Memory}

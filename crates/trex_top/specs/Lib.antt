@@ -1,11 +1,5 @@
-pub mod Capture
-pub mod Counting
-pub mod Pieces
 pub mod Clauses
+pub mod CoresAsked
 pub mod Making
-pub mod Rounds
-pub mod Steps
-pub mod Ready
-pub mod Clean
 pub mod Analysis
 pub mod Sample

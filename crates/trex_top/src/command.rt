@@ -5,9 +5,10 @@ ghost use Rattle.trex_io.specs.Faults.{Rises};
 ghost use Rattle.trex_io.specs.Texts.{Wrote, WrotePart};
 ghost use Rattle.trex_report.specs.Texts.{line_text};
 ghost use Rattle.trex_words.specs.Asked.{asked};
-ghost use Rattle.trex_top.specs.Capture.{capture, report};
+ghost use Rattle.trex_run.specs.Capture.{capture, report};
 ghost use Rattle.trex_top.specs.Clauses.{OnFault, OnRefusal, OnRun, OnSequence, OnlyRun, OnText, IfBad, IfGood, IfOther, IfRead, IfRefused, IfUnread, IsAmong, Tells, MayBeBad, MayRefuse, MaySucceed, WritesNothing, fixed_line, statuses};
-ghost use Rattle.trex_top.specs.Rounds.{AreRounds, TellEnough, cores_asked};
+ghost use Rattle.trex_run.specs.Rounds.{AreRounds, TellEnough};
+ghost use Rattle.trex_top.specs.CoresAsked.{cores_asked};
 
 use crate::analysis::{AnalyzeFault, analyze};
 use crate::check::check;

@@ -3,22 +3,20 @@ ghost use Rattle.trex_crew.specs.Told.{IfTold};
 ghost use Rattle.std.specs.Io.KnownBytes.{IsAtEnd};
 ghost use Rattle.trex_io.specs.Texts.{Wrote};
 ghost use Rattle.trex_words.specs.Asked.{IsRunAsk};
-ghost use Rattle.trex_top.specs.Capture.{sequence, capture, tallies};
+ghost use Rattle.trex_run.specs.Capture.{sequence, capture, tallies};
 ghost use Rattle.trex_top.specs.Clauses.{OnProfile, WritesNothing};
 ghost use Rattle.trex_top.specs.Making.{Stops, Unmade, stop_status};
-ghost use Rattle.trex_top.specs.Rounds.{AreRounds, TellEnough};
+ghost use Rattle.trex_run.specs.Rounds.{AreRounds, TellEnough};
 
 use crate::input::{ReadingStop, read_input};
-use crate::ready::prepare;
 use crate::stop::Stop;
-use crate::writing::generate;
 use std::alloc::Global;
 use std::thread::Threads;
 use trex_core::Plan;
 use trex_crew::Gate;
 use trex_io::{Sink, Source};
 use trex_profile::Profile;
-use trex_report::Tally;
+use trex_run::{Tally, generate, prepare};
 use trex_words::RunAsk;
 
 /// Why a capture wasn't written whole.

@@ -3,11 +3,11 @@ use Rattle.trex_io.specs.Texts.{Wrote, WrotePart}
 use Rattle.trex_core.specs.Plan.{PlanOf}
 use Rattle.trex_merge.specs.Frames.{Frame}
 use Rattle.trex_profile.specs.Stream.{Stream}
-use Rattle.trex_top.specs.Capture.{capture_text, sequence, tallies}
-use Rattle.trex_top.specs.Ready.{all_of, cores_of, gone_to}
-use Rattle.trex_top.specs.Rounds.{Suffice}
-use Rattle.trex_top.proofs.Readying.{all_same, gone_all}
-use Rattle.trex_top.proofs.Telling.{tell_all, tell_enough, tell_no_rounds}
+use Rattle.trex_run.specs.Capture.{capture_text, sequence, tallies}
+use Rattle.trex_run.specs.Ready.{all_of, cores_of, gone_to}
+use Rattle.trex_run.specs.Rounds.{Suffice}
+use Rattle.trex_run.proofs.Readying.{all_same, gone_all}
+use Rattle.trex_run.proofs.Telling.{tell_all, tell_enough, tell_no_rounds}
 use Rattle.trex_top.proofs.run.write_capture.Goals as goal
 
 pub returns-in-Ok-generate-clause-made : goal.returns-in-Ok-generate-clause-made

@@ -1,10 +1,11 @@
 use Rattle.std.proofs.Common.{List, ap, ◌∙◌, subst}
 use Rattle.trex_profile.specs.Stream.{Stream}
-use Rattle.trex_top.specs.Capture.{sequence}
-use Rattle.trex_top.specs.Ready.{cores_of}
-use Rattle.trex_top.specs.Rounds.{Suffice}
-use Rattle.trex_top.specs.Sample.{counts_of, run_of, sample_counts, sample_sequence}
-use Rattle.trex_top.proofs.Telling.{tell_all, tell_enough, tell_no_rounds}
+use Rattle.trex_run.specs.Capture.{sequence}
+use Rattle.trex_run.specs.Ready.{cores_of}
+use Rattle.trex_run.specs.Rounds.{Suffice}
+use Rattle.trex_run.specs.Counts.{counts_of}
+use Rattle.trex_top.specs.Sample.{run_of, sample_counts, sample_sequence}
+use Rattle.trex_run.proofs.Telling.{tell_all, tell_enough, tell_no_rounds}
 use Rattle.trex_top.proofs.sampling.count_sample.Goals as goal
 
 pub returns-clause-counts : goal.returns-clause-counts

@@ -1,0 +1,9 @@
+pub mod Counts
+pub mod Gathering
+pub mod Schedule
+pub mod Stepping
+pub mod Telling
+pub mod Feeding
+pub mod Readying
+pub mod Clean
+pub mod Counted
