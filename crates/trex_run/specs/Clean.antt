@@ -5,10 +5,10 @@ use Rattle.std.specs.Option.{option_map_or}
 use Rattle.trex_merge.specs.Frames.{Frame}
 use Rattle.trex_stamp.specs.Stamp.{stamp_of}
 
--- a packet ends in a latency header of a flow
-abbrev pub spells : ℕ → Frame → Bool
-spells flow frame = option_map_or (λ stamp. stamp.flow == flow) (stamp_of frame.bytes) false
+-- a packet ends in a latency header of the flow
+abbrev pub has_flow : ℕ → Frame → Bool
+has_flow flow frame = option_map_or (λ stamp. stamp.flow == flow) (stamp_of frame.bytes) false
 
 -- no packet of another stream ends in a latency header of the flow
-abbrev pub IsAlone : ℕ → ℕ → List Frame → Type 0
-IsAlone position flow frames = AllByRecursion (λ frame. ¬ (frame.stream ≡ position) → spells flow frame ≡ false) frames
+abbrev pub OwnsFlow : ℕ → ℕ → List Frame → Type 0
+OwnsFlow position flow frames = AllByRecursion (λ frame. ¬ (frame.stream ≡ position) → has_flow flow frame ≡ false) frames

@@ -2,7 +2,7 @@
 use Rattle.std.specs.Prelude.{ℕ, List, length, sum_by}
 use Rattle.trex_merge.specs.Frames.{Frame}
 use Rattle.trex_sum.specs.Checksum.{sum_of, fold_of}
-use Rattle.trex_run.specs.declared.counting.Counts.{Counts}
+use Rattle.trex_run.specs.declared.counts.Counts.{Counts}
 use Rattle.trex_run.specs.Capture.{capture_text}
 
 -- how many packets there are, of how many bytes, and the folded sum of their capture, whose times count from 1970 (RFC 1071, section 1)

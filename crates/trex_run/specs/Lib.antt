@@ -1,8 +1,9 @@
 pub mod Capture
-pub mod Counting
+pub mod Tallies
 pub mod Counts
 pub mod Pieces
 pub mod Rounds
-pub mod Steps
+pub mod Step
+pub mod State
 pub mod Ready
 pub mod Clean

@@ -32,15 +32,15 @@ abbrev pub AreRounds : ℕ → List (ℕ × ℕ) → Type 0
 AreRounds cores told = IsPermutation told (entries_of cores (length told / cores))
 
 -- So many rounds suffice for the packets, of which a core makes at most 4,096 a round, and are no more than the packets.
-pub record Suffice (cores rounds : ℕ) (frames : List Frame) : Type 0 where
+pub record IsEnoughRounds (cores rounds : ℕ) (frames : List Frame) : Type 0 where
   pub enough : (core : ℕ) → core < cores → length (sent_by core cores frames) ≤ 4096 * rounds
   pub few : rounds ≤ length frames
 
 -- Where there are gates, the rounds that they were told of suffice for the packets.
 abbrev pub TellEnough : {G : Type 0} → (G → Option (List (ℕ × ℕ))) → ℕ → List Frame → List G → List G → Type 0
-TellEnough entries cores frames old new = 0 < length old → IfTold entries old new (λ told. Suffice cores (length told / cores) frames)
+TellEnough entries cores frames old new = 0 < length old → IfTold entries old new (λ told. IsEnoughRounds cores (length told / cores) frames)
 
 -- A core made at most 4,096 packets a round: the others of its share are still to come.
-abbrev pub IsFed : ℕ → List Frame → ℕ → List Queue → Type 0
-IsFed cores frames rounds queues =
+abbrev pub HasKeptUp : ℕ → List Frame → ℕ → List Queue → Type 0
+HasKeptUp cores frames rounds queues =
     (core : ℕ) (queue : Queue) → slice_get queues core ≡ Some queue → length (share core cores frames) ≤ length queue.coming + 4096 * rounds

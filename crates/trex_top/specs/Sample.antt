@@ -4,7 +4,7 @@ use Rattle.trex_io.specs.Faults.{Rises}
 use Rattle.trex_io.specs.Texts.{WrotePart}
 use Rattle.trex_merge.specs.Frames.{Frame}
 use Rattle.trex_report.specs.Texts.{sample_line}
-use Rattle.trex_run.specs.declared.counting.Counts.{Counts}
+use Rattle.trex_run.specs.declared.counts.Counts.{Counts}
 use Rattle.trex_run.specs.Capture.{sequence}
 use Rattle.trex_run.specs.Counts.{counts_of}
 use Rattle.trex_sample.specs.Sampled.{sampled}

@@ -1,16 +1,12 @@
 // The sample: a line that shows what the machine makes of a profile that a seed determines.
 
-ghost use Rattle.std.specs.Prelude.{◌≡◌, ℕ, ◌+◌, ◌*◌, ◌≤◌, ◌<◌, ◌^◌, ◌++◌, List, length, OnErr, OnOk, IfOk, IfErr};
+ghost use Rattle.std.specs.Prelude.{◌≡◌, OnErr, OnOk, IfOk, IfErr};
 ghost use Rattle.trex_crew.specs.Told.{IfTold};
 ghost use Rattle.trex_io.specs.Texts.{Wrote};
-ghost use Rattle.trex_pcap.specs.Writing.{record_of};
-ghost use Rattle.trex_sum.specs.Running.{running};
 ghost use Rattle.trex_words.specs.Asked.{IsSampleAsk};
-ghost use Rattle.trex_run.specs.Ready.{all_of, cores_of};
-ghost use Rattle.trex_run.specs.Rounds.{AreRounds, Suffice, TellEnough, TellRounds};
+ghost use Rattle.trex_run.specs.Rounds.{AreRounds, TellEnough};
 ghost use Rattle.trex_report.specs.Texts.{line_text};
-ghost use Rattle.trex_top.specs.Sample.{Unshown, counts_of, line_of, sample_counts, sample_sequence, sample_text};
-ghost use Rattle.trex_run.specs.Steps.{seen};
+ghost use Rattle.trex_top.specs.Sample.{Unshown, line_of, sample_counts, sample_sequence, sample_text};
 
 use std::alloc::Global;
 use std::thread::Threads;
@@ -19,7 +15,7 @@ use trex_core::Plan;
 use trex_crew::Gate;
 use trex_io::{Memory, Sink};
 use trex_report::{Line, write_line};
-use trex_run::{Counts, count_all, prepare};
+use trex_run::{Counts, count_run, prepare};
 use trex_sample::sample_profile;
 use trex_words::{RunAsk, SampleAsk};
 
@@ -64,7 +60,7 @@ fn count_sample<R: Threads + Sync, G: Gate>(
     let profile = sample_profile(alloc, ask.seed, ask.streams)?;
     let plan = Plan::new(&profile, run.duration, run.base);
     let mut ready = prepare(alloc, &profile, &plan, &run)?;
-    Ok(count_all(rt, &mut ready, gates))
+    Ok(count_run(rt, &mut ready, gates))
 }
 
 /// Runs the profile that a seed determines, and writes one line on what it sends. The packets go by and none is held.

@@ -3,7 +3,7 @@ use Rattle.std.specs.List.{range_with_len}
 use Rattle.trex_core.specs.Plan.{frames_of_plan}
 use Rattle.trex_core.specs.Works.{Work}
 use Rattle.trex_run.specs.Ready.{first_work, first_works}
-use Rattle.trex_run.proofs.Readying.{works_count, works_in_order, works_more}
+use Rattle.trex_run.proofs.ReadyLemmas.{works_count, works_in_order, works_more}
 use Rattle.trex_run.proofs.ready.crew_of.Goals as goal
 
 pub loop-core-preserved : goal.loop-core-preserved

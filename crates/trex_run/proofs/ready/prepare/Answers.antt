@@ -5,7 +5,8 @@ use Rattle.trex_profile.specs.Admission.{refusal_of}
 use Rattle.trex_profile.specs.Stream.{Stream}
 use Rattle.trex_run.specs.Capture.{sequence as run_sequence}
 use Rattle.trex_run.specs.Ready.{first_works}
-use Rattle.trex_run.proofs.Readying.{plan_short, sequence_is, works_count}
+use Rattle.trex_run.proofs.ReadyLemmas.{works_count}
+use Rattle.trex_run.proofs.StateLemmas.{plan_short, sequence_is}
 use Rattle.trex_run.proofs.ready.prepare.Goals as goal
 
 pub start-progress-requires-clause-short : goal.start-progress-requires-clause-short

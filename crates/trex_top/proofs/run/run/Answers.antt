@@ -1,4 +1,4 @@
-use Rattle.trex_run.proofs.Telling.{tell_no_rounds}
+use Rattle.trex_run.proofs.RoundsLemmas.{tell_no_rounds}
 use Rattle.trex_top.proofs.run.run.Goals as goal
 
 pub returns-in-Err-Refused-clause-rounds : goal.returns-in-Err-Refused-clause-rounds
