@@ -1,4 +1,4 @@
-pub mod Counts
+pub mod TallyLemmas
 pub mod Gathering
 pub mod Schedule
 pub mod Stepping

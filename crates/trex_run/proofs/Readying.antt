@@ -29,7 +29,7 @@ use Rattle.trex_words.specs.declared.asked.RunAsk.{RunAsk}
 use Rattle.std.proofs.Math.Seq.{take-length}
 use Rattle.trex_run.specs.Counting.{counted}
 use Rattle.trex_run.specs.Ready.{CountsNext, IsEarly, IsReady, IsShort, Stand, all_of, coming, cores_of, gone_to, first_work, first_works, queues_of}
-use Rattle.trex_run.proofs.Counts.{tallies-more}
+use Rattle.trex_run.proofs.TallyLemmas.{tallies-more}
 use Rattle.trex_run.proofs.Schedule.{take-next}
 use Rattle.trex_crew.specs.Crews.{AreInOrder}
 use Rattle.std.specs.Prelude.{if◌then◌else◌}

@@ -36,7 +36,11 @@ fn add_record(sum: &mut RunningSum, time: u64, bytes: &[u8])
 }
 
 /// Goes through all packets of a run of which no step was taken, and counts them. Nothing is held of them.
-pub fn count_all<R: Threads + Sync, G: Gate>(rt: &R, ready: &mut Ready<'_>, gates: &mut [G]) -> Counts
+pub fn count_all<R: Threads + Sync, G: Gate>(
+    rt: &R,
+    ready: &mut Ready<'_>,
+    gates: &mut [G],
+) -> Counts
     requires none { seen ready.old.state ≡ 0 }
     requires limit { ready.old.state.limit ≤ 100000000 }
     ensures counts { result ≡ counts_of (all_of ready.old) }

@@ -7,7 +7,7 @@ use Rattle.trex_merge.proofs.Coming.{packet_is_least}
 use Rattle.trex_run.specs.Capture.{tallies}
 use Rattle.trex_run.specs.Ready.{CountsNext, coming, queues_of}
 use Rattle.trex_run.specs.Steps.{state_of}
-use Rattle.trex_run.proofs.Counts.{AreOf-front}
+use Rattle.trex_run.proofs.TallyLemmas.{AreOf-front}
 use Rattle.trex_run.proofs.Readying.{all_ordered, all_waiting_short, counted_next, stems_short}
 use Rattle.trex_run.proofs.go_on.advance.Goals as goal
 

@@ -3,7 +3,7 @@ use Rattle.std.proofs.lemmas.List.{take_all}
 use Rattle.trex_report.specs.declared.report.Tally.{Tally}
 use Rattle.trex_run.specs.Capture.{tallies}
 use Rattle.trex_run.proofs.Schedule.{take-next}
-use Rattle.trex_run.proofs.Counts.{id-of, tallies-at, length-tallies}
+use Rattle.trex_run.proofs.TallyLemmas.{id-of, tallies-at, length-tallies}
 use Rattle.trex_run.proofs.ready.no_tallies.Goals as goal
 
 pub loop-position-preserved : goal.loop-position-preserved
