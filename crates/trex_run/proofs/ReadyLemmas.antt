@@ -1,25 +1,27 @@
 -- What stays true of a run from its beginning to its end, step by step.
-use Rattle.std.proofs.Common.{◌≡◌, ℕ, zero, suc, ◌+◌, ◌-◌, ◌≤◌, ◌<◌, true, false, List, [], ◌∷◌, ◌++◌, length, map, take, refl, sym, ap, ◌∙◌, subst, arith, Some, add-one}
+use Rattle.std.proofs.Common.{◌≡◌, ℕ, zero, suc, ◌+◌, ◌-◌, ◌≤◌, ◌<◌, true, false, List, [], ◌∷◌, ◌++◌, length, map, take, refl, sym, ap, ◌∙◌, subst, arith, Some, add-one, add-zero, Option}
 use Rattle.std.specs.List.{AllByRecursion, range_with_len, slice_get}
+use Rattle.trex_core.specs.Plan.{PlanOf, frames_of_plan}
 use Rattle.trex_core.specs.Works.{Work, added, turned}
 use Rattle.trex_merge.specs.declared.next.Next.{Next}
 use Rattle.trex_merge.specs.declared.next.Next.TheVariants.{Packet, Need, End}
 use Rattle.trex_merge.specs.Frames.{Frame, key_of, sequence, share}
 use Rattle.trex_merge.specs.Machine.{Emit, HaveShares, IsEnded, IsMill, MillState, happens, next_in, run}
 use Rattle.trex_merge.proofs.Kept.{emit_shares, start_shares}
-use Rattle.trex_merge.proofs.Events.{emit_keeps, run_keeps, start_is}
+use Rattle.trex_merge.proofs.Events.{emit_keeps, run_keeps, sent_whole, start_is}
 use Rattle.trex_merge.proofs.Coming.{end_is_ended, packet_is_least}
 use Rattle.std.proofs.lemmas.List.{length-map, length-take-le}
 use Rattle.trex_merge.specs.Order.{AreDistinct, ordered}
 use Rattle.trex_merge.specs.Queues.{Queue, all_waiting, next_of, refilled}
 use Rattle.trex_run.specs.Step.{packet_ahead, is_packet, reached, queues_after, round_from, rounds_after, mill_after, stepped, supplied, works_after}
-use Rattle.trex_run.specs.State.{IsShort}
+use Rattle.trex_run.specs.State.{IsShort, IsStep, RunState}
 use Rattle.trex_run.specs.Ready.{IsReady, first_work, first_works, queues_of}
 use Rattle.trex_run.proofs.MillLemmas.{emit_is, goes_on, next_is, round_is, none_ahead, one_ahead}
+use Rattle.trex_run.proofs.RoundsLemmas.{tell_after}
 use Rattle.trex_run.proofs.ShareLemmas.{as_many, cores_by_marks, cores_turned, fed_after, fed_first, fed_more, in_order_still, shares_round, suffices}
 use Rattle.trex_crew.specs.Crews.{AreInOrder}
 use Rattle.std.proofs.lemmas.List.FromFn.{length-map-range_with_len}
-use Rattle.trex_run.specs.Rounds.{HasKeptUp, IsEnoughRounds}
+use Rattle.trex_run.specs.Rounds.{EnteredAfter, HasKeptUp, IsEnoughRounds, TellRounds}
 use Rattle.trex_run.proofs.TurnLemmas.{all_calm, queues_turned, stems_short, stems_turned, turns_by_marks, turns_more, turns_within}
 
 -- ---- a step of the run
@@ -261,6 +263,47 @@ reached_is frames works rounds limit sent next ready =
     let long = length-take-le sent (ordered key_of frames) ready.counted in
     let is : next_in (mill_after frames (queues_of works) sent limit) ≡ next = next_is frames (queues_of works) sent limit ready.counted ∙ sym ready.next_is in
     ap (λ n. n + packet_ahead (next_in (mill_after frames (queues_of works) sent limit))) long ∙ ap (λ (n : Next). sent + packet_ahead n) is
+
+-- ---- a step as its contract says it
+
+-- a run as its contracts see it, of these works
+abbrev pub state_of : PlanOf → List Work → ℕ → ℕ → ℕ → RunState
+state_of plan works rounds sent limit = record { plan = plan; state = mill_after (frames_of_plan plan) (queues_of works) sent limit; rounds = rounds }
+
+pub step_is : {G : Type 0} (entries : G → Option (List (ℕ × ℕ))) (plan : PlanOf) (works between works' : List Work) (rounds rounds' limit sent sent' : ℕ)
+    (next then next' : Next) (old new : List G) → IsReady (frames_of_plan plan) works rounds limit sent next
+    → IsGone (frames_of_plan plan) works between works' rounds' limit sent sent' then next'
+    → sent' ≡ sent + packet_ahead next → rounds' ≡ rounds_after then rounds → EnteredAfter entries (λ (w : Work). w.core) then between rounds old new
+    → IsStep entries (state_of plan works rounds sent limit) (state_of plan works' rounds' sent' limit) old new (is_packet next')
+step_is entries plan works between works' rounds rounds' limit sent sent' next then next' old new ready gone count made entered =
+    let frames = frames_of_plan plan in
+    let after : MillState = mill_after frames (queues_of works') sent' limit in
+    let all = sequence limit frames in
+    let cores : length (queues_of works) ≡ length works = length-map works (λ (w : Work). w.queue) in
+    let cores' : length (queues_of works') ≡ length works' = length-map works' (λ (w : Work). w.queue) in
+    let comes : next_in after ≡ next' = next_is frames (queues_of works') sent' limit gone.ready.counted ∙ sym gone.ready.next_is in
+    let tells = tell_after entries (length works) (λ (w : Work). w.core) then between rounds old new gone.order entered in
+    let over : is_packet next' ≡ false → IsEnded after = λ none. ended frames works' rounds' limit sent' next' gone.ready none gone.served in
+    let whole : is_packet next' ≡ false → after.sent ≡ all = λ none. sent_whole frames after gone.ready.is (over none) in
+    record {
+      steps = record {
+        plan = refl;
+        limit = refl;
+        cores = cores' ∙ gone.cores ∙ sym cores;
+        told = subst (λ n. TellRounds entries n rounds rounds' old new) (sym cores) (subst (λ n. TellRounds entries (length works) rounds n old new) (sym made) tells);
+      };
+      state = gone.state;
+      rounds = made ∙ ap (λ (n : Next). rounds_after n rounds) (sym gone.then_is);
+      sent = length-take-le sent' (ordered key_of frames) gone.ready.counted ∙ count ∙ sym (reached_is frames works rounds limit sent next ready);
+      more = ap is_packet (sym comes);
+      ended = over;
+      whole = whole;
+      through = λ none. record {
+        all = ap (λ n. n + packet_ahead (next_in after)) (ap length (whole none)) ∙ ap (λ (n : Next). length all + packet_ahead n) comes
+            ∙ ap (λ n. length all + n) (none_ahead next' none) ∙ add-zero (length all);
+        enough = subst (λ n. IsEnoughRounds n rounds' all) (gone.cores ∙ sym cores) (ended_suffices frames works' rounds' limit sent' next' gone.ready none (whole none));
+      };
+    }
 
 -- ---- the works of all cores
 
