@@ -1,16 +1,12 @@
 // The sample: a line that shows what the machine makes of a profile that a seed determines.
 
-ghost use Rattle.std.specs.Prelude.{◌≡◌, ℕ, ◌+◌, ◌*◌, ◌≤◌, ◌<◌, ◌^◌, ◌++◌, List, length, OnErr, OnOk, IfOk, IfErr};
+ghost use Rattle.std.specs.Prelude.{◌≡◌, OnErr, OnOk, IfOk, IfErr};
 ghost use Rattle.trex_crew.specs.Told.{IfTold};
 ghost use Rattle.trex_io.specs.Texts.{Wrote};
-ghost use Rattle.trex_pcap.specs.Writing.{record_of};
-ghost use Rattle.trex_sum.specs.Running.{running};
 ghost use Rattle.trex_words.specs.Asked.{IsSampleAsk};
-ghost use Rattle.trex_run.specs.Ready.{all_of, cores_of};
-ghost use Rattle.trex_run.specs.Rounds.{AreRounds, Suffice, TellEnough, TellRounds};
+ghost use Rattle.trex_run.specs.Rounds.{AreRounds, TellEnough};
 ghost use Rattle.trex_report.specs.Texts.{line_text};
-ghost use Rattle.trex_top.specs.Sample.{Unshown, counts_of, line_of, sample_counts, sample_sequence, sample_text};
-ghost use Rattle.trex_run.specs.Steps.{seen};
+ghost use Rattle.trex_top.specs.Sample.{Unshown, line_of, sample_counts, sample_sequence, sample_text};
 
 use std::alloc::Global;
 use std::thread::Threads;
