@@ -164,6 +164,19 @@ gone frames works between works' rounds rounds' limit sent sent' next after next
     supplied_as_many End between works' is = ap length is
     supplied_as_many (Need core) between works' is = ap length is ∙ length-map between turned
 
+-- the same from what sending and supplying say
+pub gone_to : (frames : List Frame) (works between works' : List Work) (rounds same_rounds rounds' limit same_limit sent sent' : ℕ) (next after next' : Next)
+    → IsReady frames works rounds limit sent next
+    → queues_of between ≡ queues_after next (queues_of works)
+    → map (λ (w : Work). w.core ∷ w.turns ∷ []) between ≡ map (λ (w : Work). w.core ∷ w.turns ∷ []) works
+    → same_rounds ≡ rounds → sent' ≡ sent + packet_ahead next → same_limit ≡ limit → after ≡ next_of (same_limit - sent') (queues_of between)
+    → works' ≡ works_after turned after between → rounds' ≡ rounds_after after same_rounds → next' ≡ next_of (same_limit - sent') (queues_of works')
+    → IsGone frames works between works' rounds' limit sent sent' after next'
+gone_to frames works between works' rounds same_rounds rounds' limit same_limit sent sent' next after next' ready queues marks rounds_same count limit_same is works_are rounds_are is' =
+    gone frames works between works' rounds rounds' limit sent sent' next after next' ready queues marks count
+    (is ∙ ap (λ n. next_of (n - sent') (queues_of between)) limit_same) works_are (rounds_are ∙ ap (rounds_after after) rounds_same)
+    (is' ∙ ap (λ n. next_of (n - sent') (queues_of works')) limit_same)
+
 -- ---- the end and the beginning of a run
 
 -- where nothing comes next and nobody has to be waited for, the state is ended

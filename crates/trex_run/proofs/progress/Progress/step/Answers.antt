@@ -12,14 +12,13 @@ use Rattle.trex_run.specs.Rounds.{EnteredAfter}
 use Rattle.trex_run.specs.State.{IsStep, RunState}
 use Rattle.trex_run.specs.Step.{mill_after, packet_ahead, rounds_after}
 use Rattle.trex_run.proofs.HeadLemmas.{all_waiting_short, counted_next}
-use Rattle.trex_run.proofs.ReadyLemmas.{IsGone, after_emit, gone, sent_within, state_of, step_is}
+use Rattle.trex_run.proofs.ReadyLemmas.{after_emit, gone_to, sent_within, state_of, step_is}
 use Rattle.trex_run.proofs.TallyLemmas.{AtMostPackets-front}
 use Rattle.trex_run.proofs.TurnLemmas.{all_ordered, stems_short, turns_below}
-use Rattle.trex_run.proofs.progress.Progress.step.Given.{Over}
 use Rattle.trex_run.proofs.progress.Progress.step.Goals as goal
 
-pub supply-requires-clause-turns : goal.supply-requires-clause-turns
-supply-requires-clause-turns g c =
+pub supply-self-inside-requires-clause-turns : goal.supply-self-inside-requires-clause-turns
+supply-self-inside-requires-clause-turns g c =
     let i = c.self.inside in
     let send = c.send-then.ensures in
     let then : c.send-then.result ≡ next_of (i.mill.limit - c.send-then.new.mill.sent) (queues_of (works_of c.send-then.new.crew)) = rw send.limit at send.next in
@@ -29,20 +28,78 @@ supply-requires-clause-turns g c =
     let few = sends.ready.limited in
     λ lifetimes order. turns_below c.send-then.new.mill.sent (2 ^ 63) (works_of c.send-then.new.crew) (omega (arith, within, few)) sends.turns
 
--- the whole step, over the limit that was and is
-whole : (g : Over) (c : goal.After-supply-self-inside g)
-    → IsGone (frames_of_plan c.self.inside.plan.now) (works_of c.self.inside.crew) (works_of c.send-then.new.crew) (works_of c.supply-self-inside.new.crew)
-    c.supply-self-inside.new.crew.rounds c.self.inside.mill.limit c.self.inside.mill.sent c.send-then.new.mill.sent c.send-then.result c.supply-self-inside.result
-whole g c =
+pub count_next-requires-clause-least : goal.count_next-requires-clause-least
+count_next-requires-clause-least g c feed is =
     let i = c.self.inside in
     let send = c.send-then.ensures in
     let supply = c.supply-self-inside.ensures in
-    let then : c.send-then.result ≡ next_of (i.mill.limit - c.send-then.new.mill.sent) (queues_of (works_of c.send-then.new.crew)) = rw send.limit at send.next in
-    let next : c.supply-self-inside.result ≡ next_of (i.mill.limit - c.send-then.new.mill.sent) (queues_of (works_of c.supply-self-inside.new.crew)) = rw send.limit at supply.next in
-    gone (frames_of_plan i.plan.now) (works_of i.crew) (works_of c.send-then.new.crew) (works_of c.supply-self-inside.new.crew)
-    i.crew.rounds c.supply-self-inside.new.crew.rounds i.mill.limit i.mill.sent c.send-then.new.mill.sent
-    i.next c.send-then.result c.supply-self-inside.result c.self.invariant.0
-    send.queues send.marks send.sent then supply.works (supply.rounds ∙ ap (rounds_after c.send-then.result) send.rounds) next
+    let gone =
+    gone_to (frames_of_plan i.plan.now) (works_of i.crew) (works_of c.send-then.new.crew) (works_of c.supply-self-inside.new.crew) i.crew.rounds c.send-then.new.crew.rounds
+    c.supply-self-inside.new.crew.rounds i.mill.limit c.send-then.new.mill.limit i.mill.sent c.send-then.new.mill.sent i.next c.send-then.result c.supply-self-inside.result
+    c.self.invariant.0 send.queues send.marks send.rounds send.sent send.limit send.next supply.works supply.rounds supply.next in
+    rw c.works.ensures (packet_is_least (i.mill.limit - c.send-then.new.mill.sent) feed (queues_of (works_of c.supply-self-inside.new.crew)) (sym gone.ready.next_is ∙ is))
+
+pub count_next-requires-clause-room : goal.count_next-requires-clause-room
+count_next-requires-clause-room g c =
+    let i = c.self.inside in
+    let frames = frames_of_plan i.plan.now in
+    let ready = c.self.invariant.0 in
+    rw (c.deref_mut.ensures.value, c.self.invariant.1)
+    (AtMostPackets-front i.plan.now.profile (ordered key_of frames) i.mill.limit (i.mill.sent + packet_ahead i.next) (all_ordered frames ready.short) ready.limited)
+
+pub count_next-requires-clause-short : goal.count_next-requires-clause-short
+count_next-requires-clause-short g c feed =
+    let i = c.self.inside in
+    let send = c.send-then.ensures in
+    let supply = c.supply-self-inside.ensures in
+    let gone =
+    gone_to (frames_of_plan i.plan.now) (works_of i.crew) (works_of c.send-then.new.crew) (works_of c.supply-self-inside.new.crew) i.crew.rounds c.send-then.new.crew.rounds
+    c.supply-self-inside.new.crew.rounds i.mill.limit c.send-then.new.mill.limit i.mill.sent c.send-then.new.mill.sent i.next c.send-then.result c.supply-self-inside.result
+    c.self.invariant.0 send.queues send.marks send.rounds send.sent send.limit send.next supply.works supply.rounds supply.next in
+    let queues = queues_of (works_of c.supply-self-inside.new.crew) in
+    rw c.works.ensures
+    (all_waiting_short queues feed (stems_short (frames_of_plan i.plan.now) (mill_after (frames_of_plan i.plan.now) queues c.send-then.new.mill.sent i.mill.limit) gone.ready.is gone.ready.short))
+
+pub invariant_of-self : goal.invariant_of-self
+invariant_of-self g c =
+    let i = c.self.inside in
+    let send = c.send-then.ensures in
+    let supply = c.supply-self-inside.ensures in
+    let gone =
+    gone_to (frames_of_plan i.plan.now) (works_of i.crew) (works_of c.send-then.new.crew) (works_of c.supply-self-inside.new.crew) i.crew.rounds c.send-then.new.crew.rounds
+    c.supply-self-inside.new.crew.rounds i.mill.limit c.send-then.new.mill.limit i.mill.sent c.send-then.new.mill.sent i.next c.send-then.result c.supply-self-inside.result
+    c.self.invariant.0 send.queues send.marks send.rounds send.sent send.limit send.next supply.works supply.rounds supply.next in
+    let all = sequence i.mill.limit (frames_of_plan i.plan.now) in
+    let was : i.tallies.items ≡ tallies i.plan.now.profile (take c.send-then.new.mill.sent all) =
+    c.self.invariant.1 ∙ ap (λ n. tallies i.plan.now.profile (take n all)) (sym send.sent) in
+    let counts : CountsNext c.supply-self-inside.result (queues_of (works_of c.supply-self-inside.new.crew)) i.tallies.items c.count_next.new.tallies =
+    rw (c.works.ensures, c.deref_mut.ensures.value) at c.count_next.ensures in
+    rw send.limit (
+      gone.ready,
+      counted_next i.plan.now.profile (frames_of_plan i.plan.now) (works_of c.supply-self-inside.new.crew) c.supply-self-inside.new.crew.rounds i.mill.limit
+          c.send-then.new.mill.sent c.supply-self-inside.result i.tallies.items c.count_next.new.tallies gone.ready was counts,
+      c.self.invariant.2,
+    )
 
 pub returns : goal.returns
-returns g c = ?
+returns g c =
+    let i = c.self.inside in
+    let send = c.send-then.ensures in
+    let supply = c.supply-self-inside.ensures in
+    let gone =
+    gone_to (frames_of_plan i.plan.now) (works_of i.crew) (works_of c.send-then.new.crew) (works_of c.supply-self-inside.new.crew) i.crew.rounds c.send-then.new.crew.rounds
+    c.supply-self-inside.new.crew.rounds i.mill.limit c.send-then.new.mill.limit i.mill.sent c.send-then.new.mill.sent i.next c.send-then.result c.supply-self-inside.result
+    c.self.invariant.0 send.queues send.marks send.rounds send.sent send.limit send.next supply.works supply.rounds supply.next in
+    let works' = works_of c.supply-self-inside.new.crew in
+    let rounds' = c.supply-self-inside.new.crew.rounds in
+    let sent' = c.send-then.new.mill.sent in
+    let entered : EnteredAfter g.G.Gate.entries (λ (w : Work). w.core) c.send-then.result (works_of c.send-then.new.crew) i.crew.rounds c.args.gates.now c.supply-self-inside.new.gates =
+    subst (λ n. EnteredAfter g.G.Gate.entries (λ (w : Work). w.core) c.send-then.result (works_of c.send-then.new.crew) n c.args.gates.now c.supply-self-inside.new.gates)
+    send.rounds supply.gates in
+    let step = step_is g.G.Gate.entries i.plan.now (works_of i.crew) (works_of c.send-then.new.crew) works' i.crew.rounds rounds' i.mill.limit i.mill.sent sent'
+    i.next c.send-then.result c.supply-self-inside.result c.args.gates.now c.supply-self-inside.new.gates c.self.invariant.0 gone
+    send.sent (supply.rounds ∙ ap (rounds_after c.send-then.result) send.rounds) entered in
+    let Step : RunState → ℕ → Bool → Type 0 = λ old limit found. IsStep g.G.Gate.entries old (state_of i.plan.now works' rounds' sent' limit) c.args.gates.now c.supply-self-inside.new.gates found in
+    let old = state_of i.plan.now (works_of i.crew) i.crew.rounds i.mill.sent i.mill.limit in
+    subst (λ run. Step run c.send-then.new.mill.limit c.is_packet.result) c.self.view_is
+    (subst (λ n. Step old n c.is_packet.result) (sym send.limit) (subst (Step old i.mill.limit) (sym c.is_packet.ensures) step))
