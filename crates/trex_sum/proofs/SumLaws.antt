@@ -1,14 +1,7 @@
 -- Laws of the plain sum, and of the four words that stand in one number.
-use Rattle.std.proofs.Common.{◌≡◌, ℕ, suc, ◌+◌, ◌*◌, ◌/◌, ◌%◌, ◌<◌, ◌≤◌, List, [], ◌∷◌, ◌++◌, length, get_or, take, drop, sym, ap, ◌∙◌, arith}
+use Rattle.std.proofs.Common.{◌≡◌, ℕ, ◌+◌, ◌*◌, ◌/◌, ◌%◌, ◌<◌, ◌≤◌, List, [], ◌∷◌, ◌++◌, length, get_or, take, drop, sym, ap, ◌∙◌, arith}
 use Rattle.std.proofs.lemmas.List.{take-append-drop, length-take-le}
 use Rattle.trex_sum.specs.Checksum.{sum_of}
-
--- each cell is a byte
-pub record IsBytes (xs : List ℕ) : Type 0 where
-  pub below : (k : ℕ) → get_or xs k 0 < 256
-
-IsBytes-tail : (x : ℕ) (xs : List ℕ) → IsBytes (x ∷ xs) → IsBytes xs
-IsBytes-tail x xs h = record { below = λ k. h.below (suc k) }
 
 -- what a loop over some bytes keeps: the sum so far and that of the rest are the whole sum, and no cell so far added more than 65536
 pub record SumsSoFar (total : ℕ) (rest bytes : List ℕ) : Type 0 where
@@ -34,16 +27,6 @@ sum_of-split n xs even within =
     let long : length (take n xs) ≡ n = length-take-le n xs within in
     let joined : sum_of (take n xs ++ drop n xs) ≡ sum_of (take n xs) + sum_of (drop n xs) = sum_of-append (take n xs) (drop n xs) (omega arith) in
     sym joined ∙ ap sum_of (take-append-drop n xs)
-
--- no sum is above 65536 times the length
-pub sum_of-bound : (xs : List ℕ) → IsBytes xs → sum_of xs ≤ 65536 * length xs
-sum_of-bound [] bytes = omega arith
-sum_of-bound (x ∷ []) bytes = let here = bytes.below 0 in omega arith
-sum_of-bound (x ∷ y ∷ rest) bytes =
-    let first = bytes.below 0 in
-    let second = bytes.below 1 in
-    let more = sum_of-bound rest (IsBytes-tail y rest (IsBytes-tail x (y ∷ rest) bytes)) in
-    omega arith
 
 -- the four words of one number, added
 pub four_words : (n a b c d : ℕ) → a < 65536 → b < 65536 → c < 65536 → d < 65536

@@ -21,7 +21,7 @@ use Rattle.trex_top.specs.Ends.Check.{CheckEnds}
 use Rattle.trex_top.specs.Ends.Help.{HelpEnds}
 use Rattle.trex_top.specs.Ends.Run.{RunEnds}
 use Rattle.trex_top.specs.Ends.Sample.{SampleEnds}
-use Rattle.trex_top.specs.Rounds.{AreRounds}
+use Rattle.trex_run.specs.Rounds.{AreRounds}
 use Rattle.trex_top.specs.Rows.{HasVerdict}
 use Rattle.trex_top.specs.Sides.{Side, GateSide, Failed, Rounds, Unentered, given}
 use Rattle.trex_top.proofs.Telling.{tell_no_rounds}

@@ -1,10 +1,3 @@
-pub mod Capture
-pub mod Counting
-pub mod Pieces
-pub mod Rounds
-pub mod Steps
-pub mod Ready
-pub mod Clean
 pub mod Analysis
 pub mod Sample
 pub mod Sides

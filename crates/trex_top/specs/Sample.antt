@@ -1,25 +1,17 @@
 -- What a sample writes. Own.
-use Rattle.std.specs.Prelude.{◌≡◌, ℕ, List, length, sum_by, Option}
+use Rattle.std.specs.Prelude.{◌≡◌, ℕ, List, Option}
 use Rattle.trex_io.specs.Faults.{Rises}
 use Rattle.trex_io.specs.Texts.{WrotePart}
 use Rattle.trex_merge.specs.Frames.{Frame}
 use Rattle.trex_report.specs.Texts.{sample_line}
+use Rattle.trex_run.specs.declared.counts.Counts.{Counts}
+use Rattle.trex_run.specs.Capture.{sequence}
+use Rattle.trex_run.specs.Counts.{counts_of}
 use Rattle.trex_sample.specs.Sampled.{sampled}
-use Rattle.trex_sum.specs.Checksum.{sum_of, fold_of}
 use Rattle.trex_words.specs.declared.asked.RunAsk.{RunAsk}
 use Rattle.trex_words.specs.declared.asked.SampleAsk.{SampleAsk}
-use Rattle.trex_top.specs.declared.sampling.Counts.{Counts}
 use Rattle.trex_top.specs.declared.sampling.SampleFault.{SampleFault}
 use Rattle.trex_top.specs.declared.sampling.SampleFault.TheVariants.{Out, Memory}
-use Rattle.trex_top.specs.Capture.{capture_text, sequence}
-
--- how many packets there are, of how many bytes, and the folded sum of their capture, whose times count from 1970 (RFC 1071, section 1)
-abbrev pub counts_of : List Frame → Counts
-counts_of frames = record {
-  packets = length frames;
-  bytes = sum_by (λ frame. length frame.bytes) frames;
-  sum = fold_of (sum_of (capture_text 0 frames));
-}
 
 -- the run of a sample: its times count from 1970
 abbrev pub run_of : SampleAsk → RunAsk

@@ -7,7 +7,7 @@ use Rattle.trex_io.specs.Texts.{Wrote, WrotePart, WrotePrefix}
 use Rattle.trex_merge.specs.Frames.{Frame}
 use Rattle.trex_report.specs.declared.line.Line.{Line}
 use Rattle.trex_report.specs.Texts.{line_text}
-use Rattle.trex_top.specs.Rounds.{AreRounds, TellEnough}
+use Rattle.trex_run.specs.Rounds.{AreRounds, TellEnough}
 
 -- A source or a sink over a call: the bytes that it has left or holds, where it tells them, its count of faults, and itself before and
 -- after the call.

@@ -4,12 +4,10 @@ ghost use Rattle.std.specs.Prelude.{◌≡◌, ◌≤◌, IfOk, IfErr, OnOk};
 ghost use Rattle.trex_crew.specs.Told.{IfTold};
 ghost use Rattle.trex_io.specs.Texts.{Wrote};
 ghost use Rattle.trex_words.specs.Asked.{IsRunAsk};
-ghost use Rattle.trex_top.specs.Capture.{sequence, capture, tallies};
-ghost use Rattle.trex_top.specs.Rounds.{AreRounds, TellEnough};
+ghost use Rattle.trex_run.specs.Capture.{sequence, capture, tallies};
+ghost use Rattle.trex_run.specs.Rounds.{AreRounds, TellEnough};
 ghost use Rattle.trex_top.specs.Stops.{Unmade};
 
-use crate::ready::prepare;
-use crate::writing::generate;
 use std::alloc::Global;
 use std::thread::Threads;
 use trex_core::Plan;
@@ -17,6 +15,7 @@ use trex_crew::Gate;
 use trex_io::Sink;
 use trex_profile::Profile;
 use trex_report::Tally;
+use trex_run::{generate, prepare};
 use trex_words::RunAsk;
 
 /// Why a capture wasn't written whole.

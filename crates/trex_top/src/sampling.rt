@@ -1,28 +1,22 @@
 // The sample: a line that shows what the machine makes of a profile that a seed determines.
 
-ghost use Rattle.std.specs.Prelude.{◌≡◌, ℕ, ◌+◌, ◌*◌, ◌≤◌, ◌<◌, ◌^◌, ◌++◌, List, length, OnErr, OnOk, IfOk, IfErr};
+ghost use Rattle.std.specs.Prelude.{◌≡◌, OnErr, OnOk, IfOk, IfErr};
 ghost use Rattle.trex_crew.specs.Told.{IfTold};
 ghost use Rattle.trex_io.specs.Texts.{Wrote};
-ghost use Rattle.trex_pcap.specs.Writing.{record_of};
-ghost use Rattle.trex_sum.specs.Running.{running};
 ghost use Rattle.trex_words.specs.Asked.{IsSampleAsk};
-ghost use Rattle.trex_top.specs.Ready.{all_of, cores_of};
-ghost use Rattle.trex_top.specs.Rounds.{AreRounds, Suffice, TellEnough, TellRounds};
+ghost use Rattle.trex_run.specs.Rounds.{AreRounds, TellEnough};
 ghost use Rattle.trex_report.specs.Texts.{line_text};
-ghost use Rattle.trex_top.specs.Sample.{Unshown, counts_of, line_of, sample_counts, sample_sequence, sample_text};
-ghost use Rattle.trex_top.specs.Steps.{seen};
+ghost use Rattle.trex_top.specs.Sample.{Unshown, line_of, sample_counts, sample_sequence, sample_text};
 
-use crate::ready::{Ready, prepare};
 use std::alloc::Global;
 use std::thread::Threads;
 use thiserror::Error;
 use trex_core::Plan;
 use trex_crew::Gate;
 use trex_io::{Memory, Sink};
-use trex_pcap::{header, record_header};
 use trex_report::{Line, write_line};
+use trex_run::{Counts, count_run, prepare};
 use trex_sample::sample_profile;
-use trex_sum::{RunningSum, fold};
 use trex_words::{RunAsk, SampleAsk};
 
 /// Why the line of a sample wasn't written.
@@ -36,64 +30,16 @@ pub enum SampleFault {
     Memory,
 }
 
-/// What is counted of a run: its packets, their bytes, and the folded sum of the whole capture (RFC 1071, section 1).
-#[derive(Clone, Copy)]
-pub(crate) struct Counts {
-    pub(crate) packets: u64,
-    pub(crate) bytes: u64,
-    pub(crate) sum: u16,
-}
-
-impl Counts {
-    /// The line of a sample of which this is counted.
-    fn line(&self, ask: &SampleAsk) -> Line
-        ensures { line_text result ≡ line_of ask.now self.now }
-    {
-        Line::Sample {
-            seed: ask.seed,
-            streams: ask.streams,
-            packets: self.packets,
-            bytes: self.bytes,
-            sum: self.sum,
-        }
-    }
-}
-
-/// Adds the record of a packet, whose absolute time is in nanoseconds, to a sum.
-fn add_record(sum: &mut RunningSum, time: u64, bytes: &[u8])
-    requires time { time < 2 ^ 32 * 10 ^ 9 }
-    requires short { length bytes.now ≤ 9216 }
-    requires room { sum.old.sum + 65536 * (16 + length bytes.now) < 2 ^ 64 }
-    ensures value { (front : List ℕ) → sum.old ≡ running front
-        → sum.new ≡ running (front ++ record_of (record { time = time; bytes = bytes.now })) }
-    ensures bound { sum.new.sum ≤ sum.old.sum + 65536 * (16 + length bytes.now) }
+/// The line of a sample of which this is counted.
+fn line(ask: &SampleAsk, counts: &Counts) -> Line
+    ensures { line_text result ≡ line_of ask.now counts.now }
 {
-    sum.add(&record_header(time, bytes.len() as u32));
-    sum.add(bytes);
-}
-
-/// Goes through all packets of a run of which no step was taken, and counts them. Nothing is held of them.
-fn count_all<R: Threads + Sync, G: Gate>(rt: &R, ready: &mut Ready<'_>, gates: &mut [G]) -> Counts
-    requires none { seen ready.old.state ≡ 0 }
-    requires limit { ready.old.state.limit ≤ 100000000 }
-    ensures counts { result ≡ counts_of (all_of ready.old) }
-    ensures gates { TellRounds G.entries (cores_of ready.old) ready.old.rounds ready.new.rounds gates.old gates.new }
-    ensures suffice { Suffice (cores_of ready.old) ready.new.rounds (all_of ready.old) }
-{
-    let mut sum = RunningSum::new();
-    sum.add(&header());
-    let mut packets = 0;
-    let mut bytes = 0;
-    'packets: while ready.step(rt, gates) {
-        let head = ready.current();
-        add_record(&mut sum, head.time, head.bytes);
-        packets += 1;
-        bytes += head.bytes.len() as u64;
-    }
-    Counts {
-        packets,
-        bytes,
-        sum: fold(sum.sum()),
+    Line::Sample {
+        seed: ask.seed,
+        streams: ask.streams,
+        packets: counts.packets,
+        bytes: counts.bytes,
+        sum: counts.sum,
     }
 }
 
@@ -114,7 +60,7 @@ fn count_sample<R: Threads + Sync, G: Gate>(
     let profile = sample_profile(alloc, ask.seed, ask.streams)?;
     let plan = Plan::new(&profile, run.duration, run.base);
     let mut ready = prepare(alloc, &profile, &plan, &run)?;
-    Ok(count_all(rt, &mut ready, gates))
+    Ok(count_run(rt, &mut ready, gates))
 }
 
 /// Runs the profile that a seed determines, and writes one line on what it sends. The packets go by and none is held.
@@ -135,7 +81,7 @@ pub fn sample<R: Threads + Sync, O: Sink, G: Gate>(
     let Ok(counts) = count_sample(rt, alloc, ask, gates) else {
         return Err(SampleFault::Memory);
     };
-    match write_line(out, counts.line(ask)) {
+    match write_line(out, line(ask, &counts)) {
         Ok(()) => Ok(()),
         Err(_) => Err(SampleFault::Out),
     }

@@ -4,7 +4,7 @@ use Rattle.trex_profile.specs.Stream.{Stream}
 use Rattle.trex_words.specs.declared.asked.RunAsk.{RunAsk}
 use Rattle.trex_top.specs.declared.status.Status.{Status}
 use Rattle.trex_top.specs.declared.status.Status.TheVariants.{Done, Refused, ReadFault, OutFault, NotesFault, Memory}
-use Rattle.trex_top.specs.Capture.{capture, report, sequence}
+use Rattle.trex_run.specs.Capture.{capture, report, sequence}
 use Rattle.trex_top.specs.Rows.{HasVerdict, BreaksRule, CannotRead, CannotWrite, NoMemory}
 use Rattle.trex_top.specs.Sides.{Side, GateSide, Failed, given, AtEnd, Got, GotPart, Unentered, Rounds, EnoughRounds}
 

@@ -1,0 +1,11 @@
+pub mod ListLemmas
+pub mod TallyLemmas
+pub mod CaptureLemmas
+pub mod MillLemmas
+pub mod RoundsLemmas
+pub mod ShareLemmas
+pub mod TurnLemmas
+pub mod HeadLemmas
+pub mod ReadyLemmas
+pub mod StateLemmas
+pub mod CleanLemmas

@@ -1,0 +1,40 @@
+use Rattle.std.proofs.Common.{◌≡◌, ◌+◌, ◌-◌, ◌≤◌, length, take, ap, ◌∙◌, arith}
+use Rattle.trex_core.specs.Plan.{frames_of_plan}
+use Rattle.trex_crew.specs.Crews.{works_of}
+use Rattle.trex_merge.specs.Frames.{sequence}
+use Rattle.trex_merge.specs.Queues.{next_of}
+use Rattle.trex_run.specs.Capture.{tallies}
+use Rattle.trex_run.specs.Step.{packet_ahead}
+use Rattle.trex_run.specs.Ready.{queues_of}
+use Rattle.trex_run.proofs.ReadyLemmas.{begins, reached_is}
+use Rattle.trex_run.proofs.StateLemmas.{early_by}
+use Rattle.trex_run.proofs.progress.Progress.start.Goals as goal
+
+pub invariant_of-result : goal.invariant_of-result
+invariant_of-result c =
+    let frames = frames_of_plan c.args.plan.now in
+    let works = works_of c.args.crew in
+    let mill = c.new-mill.result in
+    let none = c.new-mill.ensures.sent in
+    let next : c.peek-next.result ≡ next_of (mill.limit - 0) (queues_of works) = rw (none, c.works.ensures) at c.peek-next.ensures in
+    let few : mill.limit ≤ 100000000 = omega (arith, c.new-mill.ensures.limit, c.requires.limit) in
+    let begun = begins frames works (length works) mill.limit c.peek-next.result (c.plans_rise.ensures.distinct c.args.plan.now c.requires.kept)
+    c.requires.short c.requires.some few c.requires.works next in
+    let zero_gone : 0 ≡ mill.sent + packet_ahead c.peek-next.result = omega (arith, none, begun.none) in (
+      rw (c.requires.rounds, none) begun.ready,
+      c.requires.tallies ∙ ap (λ n. tallies c.args.plan.now.profile (take n (sequence mill.limit frames))) zero_gone,
+      early_by c.args.plan.now.duration frames c.requires.duration (c.plans_rise.ensures.below c.args.plan.now),
+    )
+
+pub returns-clause-none : goal.returns-clause-none
+returns-clause-none c =
+    let frames = frames_of_plan c.args.plan.now in
+    let works = works_of c.args.crew in
+    let mill = c.new-mill.result in
+    let none = c.new-mill.ensures.sent in
+    let next : c.peek-next.result ≡ next_of (mill.limit - 0) (queues_of works) = rw (none, c.works.ensures) at c.peek-next.ensures in
+    let few : mill.limit ≤ 100000000 = omega (arith, c.new-mill.ensures.limit, c.requires.limit) in
+    let begun = begins frames works (length works) mill.limit c.peek-next.result (c.plans_rise.ensures.distinct c.args.plan.now c.requires.kept)
+    c.requires.short c.requires.some few c.requires.works next in
+    let zero_gone : 0 + packet_ahead c.peek-next.result ≡ 0 = omega (arith, begun.none) in
+    rw none (reached_is frames works 0 mill.limit 0 c.peek-next.result begun.ready ∙ zero_gone)

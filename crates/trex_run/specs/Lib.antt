@@ -1,0 +1,9 @@
+pub mod Capture
+pub mod Tallies
+pub mod Counts
+pub mod Pieces
+pub mod Rounds
+pub mod Step
+pub mod State
+pub mod Ready
+pub mod Clean

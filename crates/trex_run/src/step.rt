@@ -1,0 +1,80 @@
+//! The two events of the merge over a crew: the packet that comes next is sent, and a round is made if a core has to be waited for.
+
+ghost use Rattle.std.specs.Prelude.{◌≡◌, ℕ, ◌+◌, ◌-◌, ◌<◌, ◌≤◌, ◌^◌, true, false, List, map, length};
+ghost use Rattle.std.specs.List.{AllByRecursion};
+ghost use Rattle.trex_crew.specs.Crews.{works_of};
+ghost use Rattle.trex_merge.specs.declared.next.Next.{Next as ANext};
+ghost use Rattle.trex_merge.specs.declared.next.Next.TheVariants.{Need as ANeed};
+ghost use Rattle.trex_merge.specs.Frames.{Frame, key_of};
+ghost use Rattle.trex_merge.specs.Machine.{Emit, IsMill, happens, run};
+ghost use Rattle.trex_merge.specs.Order.{ordered};
+ghost use Rattle.trex_merge.specs.Queues.{Queue, is_needy, next_of, refilled, stem};
+ghost use Rattle.trex_run.specs.Rounds.{EnteredAfter};
+ghost use Rattle.trex_run.specs.Step.{is_packet, mill_after, packet_ahead, queues_after, round_from, rounds_after, works_after};
+
+use std::thread::Threads;
+use trex_claims::Piece;
+use trex_crew::{Crew, Gate};
+use trex_merge::{Feed, Mill, Next};
+
+/// Sends the packet that comes next, if any, and tells what comes then.
+pub(crate) fn send<F: Feed + Piece>(mill: &mut Mill, crew: &mut Crew<F>, next: Next) -> Next
+    requires { next ≡ next_of (mill.old.limit - mill.old.sent) (map F.queue (works_of crew.old)) }
+    ensures queues { map F.queue (works_of crew.new) ≡ queues_after next (map F.queue (works_of crew.old)) }
+    ensures marks { map F.mark (works_of crew.new) ≡ map F.mark (works_of crew.old) }
+    ensures rounds { crew.new.rounds ≡ crew.old.rounds }
+    ensures sent { mill.new.sent ≡ mill.old.sent + packet_ahead next }
+    ensures limit { mill.new.limit ≡ mill.old.limit }
+    ensures next { result ≡ next_of (mill.new.limit - mill.new.sent) (map F.queue (works_of crew.new)) }
+{
+    match next {
+        Next::Packet { feed } => {
+            mill.take(crew.works_mut(), feed);
+            mill.peek(crew.works())
+        }
+        Next::Need { .. } => next,
+        Next::End => next,
+    }
+}
+
+/// Makes a round if a core has to be waited for, and tells what comes then.
+pub(crate) fn supply<R: Threads + Sync, F: Feed + Piece, G: Gate>(
+    rt: &R,
+    mill: &Mill,
+    crew: &mut Crew<F>,
+    next: Next,
+    gates: &mut [G],
+) -> Next
+    requires rounds { crew.old.rounds < 2 ^ 40 }
+    requires turns { AllByRecursion (λ work. F.turns_of work < 2 ^ 63) (works_of crew.old) }
+    requires next { next ≡ next_of (mill.now.limit - mill.now.sent) (map F.queue (works_of crew.old)) }
+    ensures works { works_of crew.new ≡ works_after F.turned next (works_of crew.old) }
+    ensures rounds { crew.new.rounds ≡ rounds_after next crew.old.rounds }
+    ensures gates { EnteredAfter G.entries F.core_of next (works_of crew.old) crew.old.rounds gates.old gates.new }
+    ensures next { result ≡ next_of (mill.now.limit - mill.now.sent) (map F.queue (works_of crew.new)) }
+{
+    match next {
+        Next::Need { .. } => {
+            crew.round(rt, gates);
+            mill.peek(crew.works())
+        }
+        Next::Packet { .. } => next,
+        Next::End => next,
+    }
+}
+
+/// The laws of a step: it is made of the mill's events.
+pub(crate) fn steps_are_events()
+    // Sending the packet that comes next is the event of the mill.
+    ensures emit { (frames : List Frame) (queues : List Queue) (sent limit : ℕ) (next : ANext) → IsMill frames (mill_after frames queues sent limit)
+        → sent ≤ length (ordered key_of frames) → next ≡ next_of (limit - sent) queues
+        → (happens (mill_after frames queues sent limit) Emit ≡ mill_after frames (queues_after next queues) (sent + packet_ahead next) limit)
+        × (sent + packet_ahead next ≤ length (ordered key_of frames)) }
+    // A round is one refill of each core.
+    ensures round { (added : Queue → ℕ) (frames : List Frame) (queues : List Queue) (sent limit : ℕ)
+        → run (round_from added 0 queues) (mill_after frames queues sent limit)
+        ≡ mill_after frames (map (λ queue. refilled (added queue) queue) queues) sent limit }
+    // After a round that was needed, and that leaves no core to be waited for, a packet comes next.
+    ensures goes_on { (more core : ℕ) (queues after : List Queue) → next_of more queues ≡ ANeed core → map stem after ≡ map stem queues
+        → AllByRecursion (λ queue. is_needy queue ≡ false) after → is_packet (next_of more after) ≡ true }
+{}

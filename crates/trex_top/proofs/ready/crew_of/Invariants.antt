@@ -1,8 +1,0 @@
-use Rattle.std.proofs.Common.{◌≡◌, map}
-use Rattle.std.specs.List.{range_with_len}
-use Rattle.trex_core.specs.Plan.{frames_of_plan}
-use Rattle.trex_top.specs.Ready.{first_work}
-use Rattle.trex_top.proofs.ready.crew_of.Given as goal
-
-abbrev pub invariant-loop-core : goal.invariant-loop-core
-invariant-loop-core l = l.works.items ≡ map (first_work l.cores (frames_of_plan l.plan)) (range_with_len 0 l.core)

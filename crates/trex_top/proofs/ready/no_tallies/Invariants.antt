@@ -1,6 +1,0 @@
-use Rattle.std.proofs.Common.{◌≡◌, [], take}
-use Rattle.trex_top.specs.Capture.{tallies}
-use Rattle.trex_top.proofs.ready.no_tallies.Given as goal
-
-abbrev pub invariant-loop-position : goal.invariant-loop-position
-invariant-loop-position l = l.all.items ≡ take l.position (tallies l.profile [])

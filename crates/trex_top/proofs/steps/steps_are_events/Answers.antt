@@ -1,5 +1,0 @@
-use Rattle.trex_top.proofs.Stepping.{emit_is, round_is, goes_on}
-use Rattle.trex_top.proofs.steps.steps_are_events.Goals as goal
-
-pub returns : goal.returns
-returns c = record { emit = emit_is; round = round_is; goes_on = goes_on }
