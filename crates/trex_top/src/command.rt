@@ -147,6 +147,3 @@ pub fn trex_main<R: Threads + Sync, S: Source, O: Sink, N: Sink, G: Gate>(
         },
     }
 }
-
-#[cfg(test)]
-mod tests;
