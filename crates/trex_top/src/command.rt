@@ -47,6 +47,3 @@ pub fn trex_main<R: Threads + Sync, S: Source, O: Sink, N: Sink, G: Gate>(
         Ok(Asked::Help) => help(out, notes),
     }
 }
-
-#[cfg(test)]
-mod tests;
