@@ -1,4 +1,4 @@
-// The program trex.
+//! The program trex.
 #![tactic(auto)]
 
 use std::process::ExitCode;

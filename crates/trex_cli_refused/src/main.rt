@@ -1,4 +1,4 @@
-// The program trex, run on a profile that is refused.
+//! The program trex, run on a profile that is refused.
 #![tactic(auto)]
 
 use std::process::ExitCode;

@@ -1,4 +1,4 @@
-// The program trex, run on words that have no meaning.
+//! The program trex, run on words that have no meaning.
 #![tactic(auto)]
 
 use std::process::ExitCode;
