@@ -5,6 +5,7 @@ ghost use Rattle.std.specs.Process.{exit_status};
 ghost use Rattle.trex_top.specs.Exit.{IsExitNumber, exit_number};
 
 use crate::command::trex_main;
+use crate::saying::tell;
 use crate::status::Status;
 use std::env;
 use std::io::{BufReader, ErrorKind, Read, Write};
@@ -12,7 +13,8 @@ use std::process::ExitCode;
 use std::rt::Env;
 use std::thread::Threads;
 use trex_crew::Open;
-use trex_io::{StdSink, StdSource, write_all};
+use trex_io::{Sink, StdSink, StdSource, write_all};
+use trex_report::Line;
 
 /// The most threads that the cores of a run work in.
 const WORKERS: usize = 8;
@@ -25,6 +27,14 @@ fn ended(status: Status) -> ExitCode
     ensures { exit_status result ≡ exit_number status }
 {
     ExitCode::from(status as u8)
+}
+
+/// The end for want of memory before the command is known.
+fn out_of_memory<N: Sink>(notes: &mut N) -> ExitCode
+    ensures { exit_status result ≡ exit_number Status.Memory }
+{
+    tell(notes, Line::OutOfMemory);
+    ended(Status::Memory)
 }
 
 /// Runs the program on the process's command words and on these streams. The word before them, the program's name, is passed over.
@@ -42,20 +52,20 @@ pub fn run_program<R: Env + AllocGlobal + Threads + Sync, I: Read + Drop, O: Wri
         Ok(all) => {
             for word in all.skip(1) {
                 if words.push(word).is_err() {
-                    return ended(Status::Memory);
+                    return out_of_memory(&mut notes);
                 }
             }
         }
         Err(e) => {
             if e.kind() == ErrorKind::OutOfMemory {
-                return ended(Status::Memory);
+                return out_of_memory(&mut notes);
             }
             let _ = write_all(&mut notes, b"usage: NotText\n");
             return ended(Status::Usage);
         }
     }
     let Ok(stdin) = BufReader::with_capacity(rt.alloc(), READ_AHEAD, stdin) else {
-        return ended(Status::Memory);
+        return out_of_memory(&mut notes);
     };
     let mut input = StdSource::new(stdin);
     let mut out = StdSink::new(stdout);
