@@ -1,11 +1,10 @@
 -- How many copies arrive.
-use Rattle.std.proofs.Common.{◌≡◌, ℕ, ◌+◌, ◌*◌, ◌<◌, ◌≤◌, ◌==◌, inl, inr, Bool, true, false, cond, nat_eq, nat_lt, List, [], ◌∷◌, ◌++◌, length, map, refl, sym, ap, ◌∙◌, arith, length-append}
+use Rattle.std.proofs.Common.{◌≡◌, ℕ, ◌+◌, ◌*◌, ◌<◌, ◌≤◌, ◌==◌, inl, inr, Bool, true, false, cond, nat_eq, nat_lt, List, [], ◌∷◌, ◌++◌, length, map, refl, ap, ◌∙◌, arith, length-append}
 use Rattle.std.proofs.lemmas.Bool.Decides.{eqb_tells, nat_tests}
 use Rattle.std.proofs.lemmas.List.{length-map}
 use Rattle.std.proofs.lemmas.List.Elements.{filter-append}
 use Rattle.std.proofs.lemmas.List.Sorted.{length_permutation}
 use Rattle.std.specs.List.{filter, range_with_len}
-use Rattle.std.specs.List.Sorted.{IsPermutation}
 use Rattle.trex_io.specs.Seen.{Seen}
 use Rattle.trex_merge.specs.declared.key.Key.{Key}
 use Rattle.trex_merge.specs.Order.{is_before, ordered, placed}
@@ -15,7 +14,7 @@ use Rattle.trex_wire.specs.declared.spec.WireSpec.{WireSpec}
 use Rattle.trex_wire.specs.declared.lanes.Due.{Due}
 use Rattle.trex_wire.specs.Lanes.{both, key_in, lane}
 use Rattle.trex_wire.specs.Wired.{arrival, arrivals, copies, copies_by, seen_at, wired, with_copies}
-use Rattle.trex_wire.proofs.LaneLemmas.{arrivals_distinct, both_moved, copies_any}
+use Rattle.trex_wire.proofs.LaneLemmas.{AreMoved, arrivals_distinct, both_moved, copies_any}
 
 -- ---- a list in order is as long
 
@@ -100,13 +99,12 @@ pub nothing_lost : (ask : WireSpec) (rs : List Seen) → length (wired rs ask) +
 nothing_lost ask rs = omega (arith, length-wired ask rs, all_counted ask 0 rs)
 
 -- as many arrive as the lanes have, also where these were put in another order
-pub lanes_arrive : (ask : WireSpec) (rs : List Seen) (first second : List Due) → IsPermutation (lane ask 0 0 rs) first → IsPermutation (lane ask 1 0 rs) second
-    → length first + length second ≡ length (wired rs ask)
-lanes_arrive ask rs first second moved again =
+pub lanes_arrive : (ask : WireSpec) (rs : List Seen) (first second : List Due) → AreMoved ask rs first second → length first + length second ≡ length (wired rs ask)
+lanes_arrive ask rs first second lanes =
     omega (
       arith,
       length-wired ask rs,
-      length_permutation (arrivals ask 0 rs) (both first second) (both_moved ask rs first second moved again),
+      length_permutation (arrivals ask 0 rs) (both first second) (both_moved ask rs first second lanes),
       length-append (map (key_in 0) first) (map (key_in 1) second),
       length-map first (key_in 0),
       length-map second (key_in 1),
@@ -114,7 +112,7 @@ lanes_arrive ask rs first second moved again =
 
 -- ---- bounds
 
-pub lane_short : (ask : WireSpec) (j i : ℕ) (rs : List Seen) → length (lane ask j i rs) ≤ length rs
+lane_short : (ask : WireSpec) (j i : ℕ) (rs : List Seen) → length (lane ask j i rs) ≤ length rs
 lane_short ask j i [] = omega arith
 lane_short ask j i (r ∷ rs) =
     let later = lane_short ask j (i + 1) rs in
@@ -124,11 +122,6 @@ lane_short ask j i (r ∷ rs) =
       | false ↦ omega (arith, later)
     ]
 
-pub with_few : (n : ℕ) (ask : WireSpec) (i : ℕ) (rs : List Seen) → with_copies n ask i rs ≤ length rs
-with_few n ask i [] = omega arith
-with_few n ask i (r ∷ rs) =
-    let later = with_few n ask (i + 1) rs in
-    elim (copies ask i == n) as (λ t. cond t 1 0 + with_copies n ask (i + 1) rs ≤ length (r ∷ rs)) [
-      | true ↦ omega (arith, later)
-      | false ↦ omega (arith, later)
-    ]
+pub lanes_short : (ask : WireSpec) (rs : List Seen) (first second : List Due) → AreMoved ask rs first second → length first + length second ≤ length rs + length rs
+lanes_short ask rs first second lanes =
+    omega (arith, length_permutation (lane ask 0 0 rs) first lanes.moved, length_permutation (lane ask 1 0 rs) second lanes.again, lane_short ask 0 0 rs, lane_short ask 1 0 rs)

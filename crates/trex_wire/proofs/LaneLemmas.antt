@@ -1,5 +1,5 @@
 -- What arrives is what the two lanes have, and no two copies have one record and one number.
-use Rattle.std.proofs.Common.{◌≡◌, ℕ, zero, suc, ◌+◌, ◌*◌, ◌/◌, ◌%◌, ◌<◌, ◌≤◌, inl, inr, Bool, true, false, cond, nat_lt, List, [], ◌∷◌, ◌++◌, length, map, refl, sym, ap, ◌∙◌, subst, arith}
+use Rattle.std.proofs.Common.{◌≡◌, ℕ, zero, suc, ◌+◌, ◌*◌, ◌/◌, ◌%◌, ◌<◌, ◌≤◌, inl, inr, true, false, cond, nat_lt, List, [], ◌∷◌, ◌++◌, length, map, refl, sym, arith}
 use Rattle.std.proofs.lemmas.List.Sorted.{Contains-permutation, IsPermutation-append, IsPermutation-cons, IsPermutation-map, IsPermutation-middle, IsPermutation-refl, IsPermutation-sym, IsPermutation-trans}
 use Rattle.std.specs.List.{AllByRecursion, Contains, range_with_len, slice_index_or}
 use Rattle.std.specs.List.Sorted.{IsPermutation}
@@ -11,8 +11,9 @@ use Rattle.trex_merge.proofs.Lists.{all-append, pairs-append}
 use Rattle.trex_vars.specs.Value.{word_at}
 use Rattle.trex_wire.specs.declared.lanes.Due.{Due}
 use Rattle.trex_wire.specs.declared.spec.WireSpec.{WireSpec}
-use Rattle.trex_wire.specs.Lanes.{both, came_by, key_in, lane}
+use Rattle.trex_wire.specs.Lanes.{both, key_in, lane}
 use Rattle.trex_wire.specs.Wired.{arrival, arrivals, copies, copies_by}
+use Rattle.trex_wire.proofs.OrderLemmas.{distinct_moved}
 
 -- a record has no copy, one or two
 pub copies_any : (P : ℕ → Type 0) (ask : WireSpec) (w : ℕ) → P 0 → P 1 → P 2 → P (copies_by ask w)
@@ -46,13 +47,22 @@ arrivals_moved ask i (r ∷ rs) =
     (IsPermutation-trans (b ∷ rest) (b ∷ both first second) (others ++ b ∷ map (key_in 1) second) (IsPermutation-cons b rest (both first second) later)
     (IsPermutation-sym (others ++ b ∷ map (key_in 1) second) (b ∷ both first second) (IsPermutation-middle others b (map (key_in 1) second)))))
 
--- the lanes may be put in another order
-pub both_moved : (ask : WireSpec) (rs : List Seen) (first second : List Due) → IsPermutation (lane ask 0 0 rs) first → IsPermutation (lane ask 1 0 rs) second
-    → IsPermutation (arrivals ask 0 rs) (both first second)
-both_moved ask rs first second moved again =
+-- Two lists have what the lanes have, in any order.
+pub record AreMoved (ask : WireSpec) (rs : List Seen) (first second : List Due) : Type 0 where
+  pub moved : IsPermutation (lane ask 0 0 rs) first
+  pub again : IsPermutation (lane ask 1 0 rs) second
+
+-- lanes that were put in another order
+pub are_moved : (ask : WireSpec) (rs : List Seen) (one two here there first second : List Due) → one ≡ lane ask 0 0 rs → two ≡ lane ask 1 0 rs
+    → IsPermutation one here → IsPermutation two there → first ≡ here → second ≡ there → AreMoved ask rs first second
+are_moved ask rs one two here there first second whole other moved again same too =
+    record { moved = rw (same, ← whole) moved; again = rw (too, ← other) again }
+
+pub both_moved : (ask : WireSpec) (rs : List Seen) (first second : List Due) → AreMoved ask rs first second → IsPermutation (arrivals ask 0 rs) (both first second)
+both_moved ask rs first second lanes =
     IsPermutation-trans (arrivals ask 0 rs) (both (lane ask 0 0 rs) (lane ask 1 0 rs)) (both first second) (arrivals_moved ask 0 rs)
     (IsPermutation-append (map (key_in 0) (lane ask 0 0 rs)) (map (key_in 0) first) (map (key_in 1) (lane ask 1 0 rs)) (map (key_in 1) second)
-    (IsPermutation-map (key_in 0) (lane ask 0 0 rs) first moved) (IsPermutation-map (key_in 1) (lane ask 1 0 rs) second again))
+    (IsPermutation-map (key_in 0) (lane ask 0 0 rs) first lanes.moved) (IsPermutation-map (key_in 1) (lane ask 1 0 rs) second lanes.again))
 
 -- ---- copies are apart
 
@@ -92,10 +102,11 @@ stream_in : (copy : ℕ) (dues : List Due) → AllByRecursion (λ (k : Key). k.s
 stream_in copy [] = tt
 stream_in copy (due ∷ dues) = (refl, stream_in copy dues)
 
-pub both_distinct : (first second : List Due) → AreDistinct (λ k. k) (map (key_in 0) first) → AreDistinct (λ k. k) (map (key_in 1) second)
-    → AreDistinct (λ k. k) (both first second)
-both_distinct first second mine other =
-    pairs-append (AreApart (λ k. k)) (map (key_in 0) first) (map (key_in 1) second) mine other
+pub both_distinct : (ask : WireSpec) (rs : List Seen) (first second : List Due) → AreMoved ask rs first second → AreDistinct (λ k. k) (both first second)
+both_distinct ask rs first second lanes =
+    pairs-append (AreApart (λ k. k)) (map (key_in 0) first) (map (key_in 1) second)
+    (distinct_moved 0 (lane ask 0 0 rs) first lanes.moved (lane_distinct ask 0 0 0 rs))
+    (distinct_moved 1 (lane ask 1 0 rs) second lanes.again (lane_distinct ask 1 1 0 rs))
     (λ x y here there same.
     let zero_first = all_at (λ (k : Key). k.stream ≡ 0) (map (key_in 0) first) x (stream_in 0 first) here in
     let one_second = all_at (λ (k : Key). k.stream ≡ 1) (map (key_in 1) second) y (stream_in 1 second) there in
@@ -152,13 +163,13 @@ arrivals_distinct ask i (r ∷ rs) =
     omega (arith, number, past, same.1))
 
 -- the copies of two lanes that were put in another order are what arrives, in order
-pub ordered_moved : (ask : WireSpec) (rs : List Seen) (first second : List Due) → IsPermutation (lane ask 0 0 rs) first → IsPermutation (lane ask 1 0 rs) second
-    → AreDistinct (λ k. k) (both first second) → ordered (λ k. k) (both first second) ≡ ordered (λ k. k) (arrivals ask 0 rs)
-ordered_moved ask rs first second moved again distinct =
+pub ordered_moved : (ask : WireSpec) (rs : List Seen) (first second : List Due) → AreMoved ask rs first second
+    → ordered (λ k. k) (both first second) ≡ ordered (λ k. k) (arrivals ask 0 rs)
+ordered_moved ask rs first second lanes =
     let xs = arrivals ask 0 rs in
     let ys = both first second in
-    let same = same_moved xs ys (both_moved ask rs first second moved again) in
-    ordered_is_only (λ k. k) (ordered (λ k. k) ys) xs (arrivals_distinct ask 0 rs) (rising-ordered (λ k. k) ys distinct) (λ x. (
+    let same = same_moved xs ys (both_moved ask rs first second lanes) in
+    ordered_is_only (λ k. k) (ordered (λ k. k) ys) xs (arrivals_distinct ask 0 rs) (rising-ordered (λ k. k) ys (both_distinct ask rs first second lanes)) (λ x. (
       (λ has. (same x).1 ((same-ordered (λ k. k) ys x).0 has)),
       (λ has. (same-ordered (λ k. k) ys x).1 ((same x).0 has)),
     ))

@@ -1,14 +1,14 @@
 -- The merge of two lanes, of which all copies wait.
-use Rattle.std.proofs.Common.{◌≡◌, ℕ, zero, suc, ◌+◌, ◌-◌, ◌<◌, ◌≤◌, ◌&&◌, not, Bool, true, false, Some, List, [], ◌∷◌, ◌++◌, append-nil, append_assoc, get_or, length, map, take, refl, sym, ap, ◌∙◌, subst, arith, length-append}
+use Rattle.std.proofs.Common.{◌≡◌, ℕ, zero, suc, ◌+◌, ◌-◌, ◌<◌, ◌≤◌, ◌&&◌, not, true, Some, List, [], ◌∷◌, ◌++◌, append-nil, get_or, length, map, take, refl, sym, ap, ◌∙◌, subst, arith, length-append}
 use Rattle.std.proofs.lemmas.List.{length-map, map-append, take_all}
 use Rattle.std.specs.List.{AllByRecursion, slice_get}
 use Rattle.trex_io.specs.Seen.{Seen}
 use Rattle.trex_merge.specs.declared.key.Key.{Key}
 use Rattle.trex_merge.specs.declared.next.Next.TheVariants.{End, Need, Packet}
-use Rattle.trex_merge.specs.Frames.{Frame, key_of, sequence}
-use Rattle.trex_merge.specs.Machine.{Emit, IsMill, MillState, emitted, happens, next_in}
+use Rattle.trex_merge.specs.Frames.{Frame, key_of}
+use Rattle.trex_merge.specs.Machine.{IsMill, MillState, emitted}
 use Rattle.trex_merge.specs.Order.{AreDistinct, ComesBefore, IsRising, joined, ordered}
-use Rattle.trex_merge.specs.Queues.{Queue, all_waiting, at_place, is_needy, is_none_left, next_of, popped, stem, waiting_at}
+use Rattle.trex_merge.specs.Queues.{Queue, at_place, is_none_left, next_of, popped, stem, waiting_at}
 use Rattle.trex_merge.proofs.Coming.{end_is_ended, need_is_first, packet_is_least}
 use Rattle.trex_merge.proofs.Events.{emit_keeps, first_waits, sent_whole}
 use Rattle.trex_merge.proofs.Following.{distinct-map, map-ordered}

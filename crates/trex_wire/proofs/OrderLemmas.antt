@@ -1,5 +1,5 @@
 -- A lane that was sorted rises, and its copies stay apart.
-use Rattle.std.proofs.Common.{◌≡◌, ◌≢◌, ℕ, zero, suc, ◌+◌, ◌<◌, inl, inr, Bool, true, false, nat_eq, List, [], ◌∷◌, length, get_or, map, refl, sym, ap, ◌∙◌, subst, arith, IsTrue}
+use Rattle.std.proofs.Common.{◌≡◌, ℕ, suc, ◌+◌, inl, inr, false, nat_eq, List, [], ◌∷◌, get_or, map, refl, subst, arith}
 use Rattle.std.proofs.lemmas.Bool.Decides.{eqb_tells, nat_tests}
 use Rattle.std.proofs.lemmas.List.Sorted.{IsPermutation-map}
 use Rattle.std.proofs.lemmas.Map.Keys.{IsDistinct-IsPermutation}
@@ -8,8 +8,8 @@ use Rattle.std.specs.List.Sorted.{IsPermutation, IsSorted}
 use Rattle.std.specs.Ordering.{is_lt, nat_cmp, ordering_then}
 use Rattle.std.specs.declared.cmp.Ordering.{Ordering}
 use Rattle.trex_merge.specs.declared.key.Key.{Key}
-use Rattle.trex_merge.specs.Order.{AreApart, AreDistinct, ComesBefore, Has, IsRising}
-use Rattle.trex_merge.proofs.Keys.{IsBefore, before_is, before_trans, by_number, by_stream, by_time, one_first}
+use Rattle.trex_merge.specs.Order.{AreApart, AreDistinct, ComesBefore, IsRising}
+use Rattle.trex_merge.proofs.Keys.{before_is, before_trans, by_number, by_stream, by_time, one_first}
 use Rattle.trex_merge.proofs.Laws.{all_at, all_from}
 use Rattle.trex_wire.specs.declared.lanes.Due.{Due}
 use Rattle.trex_wire.specs.Lanes.{key_in}

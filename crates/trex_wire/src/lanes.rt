@@ -118,8 +118,6 @@ pub(crate) fn lanes_of(alloc: Global, ask: WireSpec, store: &Store) -> Result<La
 /// Puts the copies of a lane in rising order of time, then of record.
 pub(crate) fn sort_lane(lane: &mut Vec<Due>)
     ensures permutation { IsPermutation lane.old.items lane.new.items }
-    ensures distinct { (copy : ℕ) → AreDistinct (λ k. k) (map (key_in copy) lane.old.items)
-        → AreDistinct (λ k. k) (map (key_in copy) lane.new.items) }
     ensures rising { (copy : ℕ) → AreDistinct (λ k. k) (map (key_in copy) lane.old.items)
         → IsRising (λ k. k) (map (key_in copy) lane.new.items) }
 {

@@ -1,10 +1,6 @@
 use Rattle.trex_wire.proofs.OrderLemmas.{distinct_moved, rising_from_sorted}
 use Rattle.trex_wire.proofs.lanes.sort_lane.Goals as goal
 
-pub returns-clause-distinct : goal.returns-clause-distinct
-returns-clause-distinct c copy distinct =
-    distinct_moved copy c.args.lane.now.items c.sort_unstable.new.self.items c.sort_unstable.ensures.permutation distinct
-
 pub returns-clause-rising : goal.returns-clause-rising
 returns-clause-rising c copy distinct =
     rising_from_sorted copy c.sort_unstable.new.self.items c.sort_unstable.ensures.sorted

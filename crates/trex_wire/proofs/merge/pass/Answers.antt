@@ -1,6 +1,5 @@
-use Rattle.std.proofs.Common.{◌≡◌, ◌-◌, ◌<◌, ◌++◌, ◌∷◌, [], List, get_or, length, map, sym, subst, arith, lit<, lit≤}
+use Rattle.std.proofs.Common.{◌-◌, ◌<◌, ◌++◌, ◌∷◌, [], List, get_or, length, map, sym, subst, arith}
 use Rattle.std.proofs.lemmas.List.{length-map}
-use Rattle.trex_io.specs.Seen.{Seen}
 use Rattle.trex_merge.specs.Frames.{Frame}
 use Rattle.trex_merge.proofs.Coming.{packet_is_least}
 use Rattle.trex_merge.proofs.Feeds.{feed_waits, feed_within}
