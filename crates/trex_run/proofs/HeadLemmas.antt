@@ -1,5 +1,5 @@
 -- The packet that waits first at a core, and what is counted of it.
-use Rattle.std.proofs.Common.{◌≡◌, ℕ, zero, suc, ◌+◌, ◌-◌, ◌<◌, List, [], ◌∷◌, length, take, refl, sym, ap, ◌∙◌, arith, get_or, Some}
+use Rattle.std.proofs.Common.{◌≡◌, ℕ, zero, suc, ◌+◌, ◌<◌, List, [], ◌∷◌, length, take, refl, sym, ap, ◌∙◌, arith, get_or, Some}
 use Rattle.std.specs.List.{AllByRecursion, slice_get}
 use Rattle.trex_core.specs.Works.{Work}
 use Rattle.trex_merge.specs.declared.next.Next.{Next}

@@ -1,5 +1,5 @@
 -- What a run sends, and what its steps leave as it is.
-use Rattle.std.proofs.Common.{◌≡◌, ℕ, ◌+◌, ◌*◌, ◌^◌, ◌-◌, ◌≤◌, ◌<◌, true, List, [], ◌∷◌, length, map, take, drop, refl, sym, ap, ◌∙◌, subst, arith, Some, None, Bool, Option}
+use Rattle.std.proofs.Common.{◌≡◌, ℕ, ◌+◌, ◌*◌, ◌^◌, ◌≤◌, ◌<◌, true, List, [], ◌∷◌, length, map, take, drop, refl, sym, ap, ◌∙◌, subst, arith, Some, None, Bool, Option}
 use Rattle.std.specs.List.{AllByRecursion, slice_get}
 use Rattle.trex_core.specs.Plan.{PlanOf, frame_at, frames_of_plan, packet_bytes, schedule}
 use Rattle.trex_profile.specs.Packets.{packet_of}

@@ -1,5 +1,5 @@
 -- What is counted of a run's packets as they go by. Own.
-use Rattle.std.specs.Prelude.{ℕ, List, length, sum_by}
+use Rattle.std.specs.Prelude.{List, length, sum_by}
 use Rattle.trex_merge.specs.Frames.{Frame}
 use Rattle.trex_sum.specs.Checksum.{sum_of, fold_of}
 use Rattle.trex_run.specs.declared.counts.Counts.{Counts}

@@ -1,4 +1,5 @@
-use Rattle.std.proofs.Common.{◌≡◌, ℕ, ◌+◌, ◌-◌, ◌^◌, Bool, take, ap, sym, subst, ◌∙◌, arith}
+use Rattle.std.proofs.Common.{◌≡◌, ℕ, ◌+◌, ◌-◌, ◌^◌, ◌++◌, Bool, length, take, drop, ap, sym, subst, ◌∙◌, arith}
+use Rattle.std.proofs.Math.Seq.{take-append_seam}
 use Rattle.trex_core.specs.Plan.{frames_of_plan}
 use Rattle.trex_core.specs.Works.{Work}
 use Rattle.trex_crew.specs.Crews.{works_of}
@@ -74,12 +75,14 @@ invariant_of-self g c =
     c.self.invariant.1 ∙ ap (λ n. tallies i.plan.now.profile (take n all)) (sym send.sent) in
     let counts : CountsNext c.supply-self-inside.result (queues_of (works_of c.supply-self-inside.new.crew)) i.tallies.items c.count_next.new.tallies =
     rw (c.works.ensures, c.deref_mut.ensures.value) at c.count_next.ensures in
-    rw send.limit (
-      gone.ready,
-      counted_next i.plan.now.profile (frames_of_plan i.plan.now) (works_of c.supply-self-inside.new.crew) c.supply-self-inside.new.crew.rounds i.mill.limit
-          c.send-then.new.mill.sent c.supply-self-inside.result i.tallies.items c.count_next.new.tallies gone.ready was counts,
-      c.self.invariant.2,
-    )
+    let is : c.count_next.new.tallies ≡ tallies i.plan.now.profile (take (c.send-then.new.mill.sent + packet_ahead c.supply-self-inside.result) all) =
+    counted_next i.plan.now.profile (frames_of_plan i.plan.now) (works_of c.supply-self-inside.new.crew) c.supply-self-inside.new.crew.rounds i.mill.limit
+    c.send-then.new.mill.sent c.supply-self-inside.result i.tallies.items c.count_next.new.tallies gone.ready was counts in
+    let new = c.count_next.new.tallies in
+    let rest = drop (length new) i.tallies.items in
+    let long : i.tallies.len ≡ length new = omega (arith, c.deref_mut.ensures.len) in
+    let back : take i.tallies.len (new ++ rest) ≡ new = ap (λ n. take n (new ++ rest)) long ∙ take-append_seam new rest in
+    rw send.limit (gone.ready, back ∙ is, c.self.invariant.2)
 
 pub returns : goal.returns
 returns g c =
