@@ -1,3 +1,4 @@
 pub mod JsonLemmas
 pub mod Groups
 pub mod Decimals
+pub mod Each

@@ -7,17 +7,30 @@ use Rattle.trex_profile.specs.declared.rule.Rule.TheVariants.{BadInstruction, Ba
 use Rattle.trex_profile.specs.Instruction.{Instruction, FlowVar, ListVar, RandLimit, Tuple, Write, WriteMask, FixIpv4, FixHw, Trim}
 use Rattle.trex_profile.specs.Order.{first}
 use Rattle.trex_profile.specs.Refusal.{rule_there}
+use Rattle.trex_json.specs.declared.instr.Numbers.{Numbers}
 use Rattle.trex_json.specs.declared.kinds.InstrWord.{InstrWord}
 use Rattle.trex_json.specs.declared.kinds.InstrWord.TheVariants.{FlowVar as FlowVarWord, RandLimit as RandLimitWord, Tuple as TupleWord, Write as WriteWord, WriteMask as WriteMaskWord, FixIpv4 as FixIpv4Word, FixHw as FixHwWord, Trim as TrimWord}
 use Rattle.trex_json.specs.Kinds.{an_object}
 use Rattle.trex_json.specs.Names.{wrong, value}
 use Rattle.trex_json.specs.Rows as row
 
--- the numbers of a counter or of a list are wrong
+-- the numbers of a counter of so many bytes are wrong
+unfoldable pub numbers_wrong : ℕ → Data → Bool
+numbers_wrong size d =
+    wrong row.min_value d || wrong (row.max_value size) d || wrong (row.init_value (value row.min_value d)) d || wrong row.step d
+
+-- the numbers of a counter of so many bytes
+abbrev pub numbers : ℕ → Data → Numbers
+numbers size d = record {
+  min = value row.min_value d;
+  max = value (row.max_value size) d;
+  init = value (row.init_value (value row.min_value d)) d;
+  step = value row.step d;
+}
+
+-- the operands of a counter or of a list, but for its values, are wrong
 unfoldable pub flow_var_wrong : Data → Bool
-flow_var_wrong d =
-    wrong row.size d || wrong row.op d || wrong row.min_value d || wrong (row.max_value (value row.size d)) d
-    || wrong (row.init_value (value row.min_value d)) d || wrong row.step d
+flow_var_wrong d = wrong row.size d || wrong row.op d || numbers_wrong (value row.size d) d
 
 -- a counter of that name, or the list where there are values
 abbrev pub flow_var : List ℕ → Option (List ℕ) → Data → Instruction

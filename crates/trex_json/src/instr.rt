@@ -8,7 +8,7 @@ ghost use Rattle.trex_profile.specs.Instruction.{instruction, IsRawInstr, FixIpv
 ghost use Rattle.trex_profile.specs.Order.{first_each, unless};
 ghost use Rattle.trex_json.specs.Kinds.{place_of_text};
 ghost use Rattle.trex_json.specs.Names.{told};
-ghost use Rattle.trex_json.specs.Operands.{flow_var_wrong, flow_var, rand_limit_wrong, rand_limit, tuple_wrong, tuple, write_wrong, write, write_mask_wrong, write_mask, fix_hw_wrong, fix_hw, operands_wrong, instruction_by, instr_rules, instruction_of};
+ghost use Rattle.trex_json.specs.Operands.{numbers_wrong, numbers, flow_var_wrong, flow_var, rand_limit_wrong, rand_limit, tuple_wrong, tuple, write_wrong, write, write_mask_wrong, write_mask, fix_hw_wrong, fix_hw, operands_wrong, instruction_by, instr_rules, instruction_of};
 ghost use Rattle.trex_json.specs.Rows as row;
 
 use crate::binary::values_told;
@@ -65,6 +65,33 @@ fn greatest_of(size: u8) -> u64
     }
 }
 
+/// The numbers of a counter.
+#[derive(Clone, Copy)]
+struct Numbers {
+    min: u64,
+    max: u64,
+    init: u64,
+    step: u64,
+}
+
+/// The numbers of a counter of so many bytes.
+#[tactic(auto, unfolding(crate::specs::Operands::numbers_wrong))]
+fn numbers_told(size: u8, item: &Value) -> Option<Numbers>
+    requires { IsSize size }
+    ensures { result ≡ (if numbers_wrong size (view item.now) then None else Some (numbers size (view item.now))) }
+{
+    let min = whole_told(item, "min_value", u64::MAX, Some(0))?;
+    let max = whole_told(item, "max_value", u64::MAX, Some(greatest_of(size)))?;
+    let init = whole_told(item, "init_value", u64::MAX, Some(min))?;
+    let step = whole_told(item, "step", u64::MAX, Some(1))?;
+    Some(Numbers {
+        min,
+        max,
+        init,
+        step,
+    })
+}
+
 /// A counter, or a list where there are values.
 #[tactic(auto, unfolding(crate::specs::Operands::flow_var_wrong))]
 fn flow_var(name: Name, values: Option<Vec<u64>>, item: &Value) -> Option<RawInstr>
@@ -74,25 +101,22 @@ fn flow_var(name: Name, values: Option<Vec<u64>>, item: &Value) -> Option<RawIns
 {
     let size = size_told(item, "size")?;
     let op = op_told(item, "op")?;
-    let min = whole_told(item, "min_value", u64::MAX, Some(0))?;
-    let max = whole_told(item, "max_value", u64::MAX, Some(greatest_of(size)))?;
-    let init = whole_told(item, "init_value", u64::MAX, Some(min))?;
-    let step = whole_told(item, "step", u64::MAX, Some(1))?;
+    let numbers = numbers_told(size, item)?;
     Some(match values {
         None => RawInstr::FlowVar {
             name,
             size,
             op,
-            init,
-            min,
-            max,
-            step,
+            init: numbers.init,
+            min: numbers.min,
+            max: numbers.max,
+            step: numbers.step,
         },
         Some(values) => RawInstr::ListVar {
             name,
             size,
             op,
-            step,
+            step: numbers.step,
             values,
         },
     })

@@ -71,6 +71,3 @@ pub fn admit(alloc: Global, raw: RawProfile) -> Result<Profile, AdmitFault>
     let following = follow(alloc, &members)?;
     Ok(Profile::new(alloc, members, &following)?)
 }
-
-#[cfg(test)]
-mod tests;

@@ -308,6 +308,3 @@ pub(crate) fn program_of(alloc: Global, steps: &[Step]) -> Result<Vec<Instr>, Me
     }
     Ok(instrs)
 }
-
-#[cfg(test)]
-mod tests;

@@ -1,5 +1,6 @@
-use Rattle.std.proofs.Common.{◌≡◌, ◌+◌, ◌-◌, length, Some, false, sym, ◌∙◌, ap, arith}
-use Rattle.std.proofs.lemmas.Grind.{common_steps}
+use Rattle.std.proofs.Common.{◌≡◌, ◌+◌, ◌-◌, ◌<◌, All, length, Some, false, sym, ◌∙◌, ap, subst, arith}
+use Rattle.std.proofs.lemmas.List.{length_push}
+use Rattle.std.proofs.lemmas.List.Elements.{All-push}
 use Rattle.trex_profile.specs.Visits.{has, link_at}
 use Rattle.trex_profile.proofs.Visiting.{link_at-get, visited-push, visit-again, visit-last, visit-next, visit-out}
 use Rattle.trex_profile.proofs.chains.visit.Goals as goal
@@ -22,8 +23,9 @@ loop-step-preserved c =
     record {
       here = c.requires.within c.loop-step.at c.in-Some-links.next follows;
       same = visited-push c.loop-step.seen.keys c.loop-step.order.items c.insert.new.self.keys c.push.new.self.items c.loop-step.at c.loop-step.invariant.same new c.in_ok-insert.ensures.keys c.in_ok-push.ensures.items;
-      few = grind (arith, common_steps);
-      within = grind (arith, common_steps);
+      few = omega (arith, ap length c.in_ok-push.ensures.items, length_push c.loop-step.order.items c.loop-step.at, c.loop-step.invariant.few);
+      within = subst (All (λ at. at < length c.args.links.now)) (sym c.in_ok-push.ensures.items)
+          (All-push (λ at. at < length c.args.links.now) c.loop-step.order.items c.loop-step.at c.loop-step.invariant.within c.loop-step.invariant.here);
       left = visit-next _ (length c.args.links.now + 1 - (c.loop-step._step + 1)) c.args.links.now c.loop-step.order.items c.push.new.self.items c.loop-step.at c.args.start c.in-Some-links.next
           (omega arith) c.loop-step.invariant.left new follows c.in_ok-push.ensures.items;
     }
