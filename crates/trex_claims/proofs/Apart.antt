@@ -10,7 +10,7 @@ use Rattle.trex_claims.specs.declared.view.Round.{Round}
 use Rattle.trex_claims.specs.declared.view.View.{View}
 use Rattle.trex_claims.specs.Views.{total, held}
 use Rattle.trex_claims.specs.Board.{Draws, IsPiece, Kept, Led, Rule}
-use Rattle.trex_claims.proofs.Totals.{at_most_one, sure, within}
+use Rattle.trex_claims.proofs.TotalLemmas.{at_most_one, sure, within}
 use Rattle.trex_claims.proofs.Shelves.{drawing_of}
 use Rattle.trex_claims.proofs.Rests.{held_zero, done_sole, each_put}
 

@@ -14,7 +14,7 @@ use Rattle.trex_claims.specs.declared.view.View.{View}
 use Rattle.trex_claims.specs.Views.{total, times, one_if, held, done, drawn, nones, left}
 use Rattle.trex_claims.specs.Board.{Drawing, Draws, IsPiece, Shelved, Kept, Rule, below}
 use Rattle.trex_claims.specs.Moves.{vacant, stand_at, claims, ends, Drew}
-use Rattle.trex_claims.proofs.Totals.{total_set, part, at_place, once_here, not_here, one_more, not_yet, both_past}
+use Rattle.trex_claims.proofs.TotalLemmas.{total_set, part, at_place, once_here, not_here, one_more, not_yet, both_past}
 use Rattle.trex_claims.proofs.Seats.{knows, leads_on}
 use Rattle.trex_claims.proofs.Shelves.{full_not_empty, running_unspent, drawing_of, untouched, rekept}
 

@@ -1,11 +1,11 @@
-pub mod Totals
-pub mod Seats
-pub mod Shelves
-pub mod Draws
-pub mod Rounds
-pub mod Puts
-pub mod Rests
-pub mod Slots
-pub mod Calls
-pub mod Apart
+pub mod TotalLemmas
+mod Seats
+mod Shelves
+mod Draws
+mod Rounds
+mod Puts
+mod Rests
+pub mod SlotLemmas
+pub mod CallLemmas
+mod Apart
 pub mod CallerLemmas

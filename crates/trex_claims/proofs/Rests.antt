@@ -14,7 +14,7 @@ use Rattle.trex_claims.specs.declared.view.View.{View}
 use Rattle.trex_claims.specs.Views.{total, times, one_if, held, done, drawn}
 use Rattle.trex_claims.specs.Board.{Led, Drawing, Resting, Draws, Shelved, Kept, below}
 use Rattle.trex_claims.specs.Moves.{turned_by, stands_after, rested_if, restood}
-use Rattle.trex_claims.proofs.Totals.{total_set, within, at_most_one, sure, not_yet}
+use Rattle.trex_claims.proofs.TotalLemmas.{total_set, within, at_most_one, sure, not_yet}
 use Rattle.trex_claims.proofs.Seats.{sole, leads_alone}
 use Rattle.trex_claims.proofs.Shelves.{drawing_of, resting_of, untouched}
 

@@ -10,7 +10,7 @@ use Rattle.trex_claims.specs.declared.view.View.{View}
 use Rattle.trex_claims.specs.Views.{total, times, IsFirst, IsOther, IsFull, other, held, done, drawn, nones, left, spent}
 use Rattle.trex_claims.specs.Board.{Led, Drawing, Resting, Shelved, Kept, Rule}
 use Rattle.trex_claims.specs.Moves.{vacant, opening_view, stand_at, begun, gave, worker, both, Began}
-use Rattle.trex_claims.proofs.Totals.{total_set, total_snoc, part, within, place_of, set_loaded, times_append, not_yet}
+use Rattle.trex_claims.proofs.TotalLemmas.{total_set, total_snoc, part, within, place_of, set_loaded, times_append, not_yet}
 use Rattle.trex_claims.proofs.Seats.{one_of, sole, leads_alone, leads_split, leads_join}
 use Rattle.trex_claims.proofs.Shelves.{resting_of, untouched, of_first, viewed}
 

@@ -11,7 +11,7 @@ use Rattle.trex_claims.specs.declared.view.View.{View}
 use Rattle.trex_claims.specs.Views.{total, IsFirst, IsOther, other, other_by, spent}
 use Rattle.trex_claims.specs.Board.{FollowsAs, Led}
 use Rattle.trex_claims.specs.Moves.{gave, worker, both}
-use Rattle.trex_claims.proofs.Totals.{total_set, total_snoc, total_first, part, within}
+use Rattle.trex_claims.proofs.TotalLemmas.{total_set, total_snoc, total_first, part, within}
 
 first_alone : (r : Role) (a v : View) → IsFirst r → FollowsAs r a v → ⊥
 first_alone First a v i f = f

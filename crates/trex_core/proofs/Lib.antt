@@ -1,5 +1,5 @@
-pub mod Records
-pub mod Slots
-pub mod Filling
-pub mod Registering
-pub mod Making
+mod Records
+mod Slots
+mod Filling
+mod Registering
+mod Making

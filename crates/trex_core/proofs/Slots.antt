@@ -2,8 +2,8 @@
 use Rattle.std.proofs.Common.{ℕ, ◌<◌, ◌≤◌, ◌^◌, Bool, true, false, cond, List, [], ◌∷◌, length, map, inl, inr, arith}
 use Rattle.std.specs.List.{AllByRecursion, filter}
 use Rattle.trex_merge.specs.Order.{Has, ordered}
-use Rattle.trex_merge.proofs.Laws.{all_at, all_from, same-ordered}
-use Rattle.trex_merge.proofs.Lists.{all-append}
+use Rattle.trex_merge.proofs.OrderLemmas.{all_at, all_from, same-ordered}
+use Rattle.trex_merge.proofs.ListLemmas.{all-append}
 use Rattle.trex_profile.specs.Stream.{Stream}
 use Rattle.trex_sched.specs.declared.chain.Leg.{Leg}
 use Rattle.trex_sched.specs.declared.slot.Slot.{Slot}

@@ -6,7 +6,7 @@ use Rattle.trex_claims.specs.Boards.{Me}
 use Rattle.trex_claims.specs.Moves.{DrewCore, claims, puts}
 use Rattle.trex_crew.specs.Gates.{HasEntered}
 use Rattle.trex_crew.specs.Workers.{MayDraw, Worked}
-use Rattle.trex_crew.proofs.Entries.{entered_next, entered_two}
+use Rattle.trex_crew.proofs.EntryLemmas.{entered_next, entered_two}
 
 module _ {T : Type 0} (core turns : T → ℕ) (stem : T → List (List ℕ)) (settled : T → Type 0) (slots c : ℕ) (me drawn after : Me (Option T) View)
     (drew : DrewCore core turns stem settled slots c me drawn) (put : after ≡ (puts drawn.0, [])) where

@@ -6,7 +6,7 @@ use Rattle.trex_claims.specs.Views.{IsFirst}
 use Rattle.trex_claims.specs.Board.{IsPiece}
 use Rattle.trex_claims.specs.Boards.{Me}
 use Rattle.trex_claims.specs.Moves.{rested, rested_if, restood, stand_at}
-use Rattle.trex_claims.proofs.Calls.{rested_role, rested_length}
+use Rattle.trex_claims.proofs.CallLemmas.{rested_role, rested_length}
 use Rattle.trex_claims.proofs.CallerLemmas.{rested_still}
 use Rattle.trex_crew.specs.Rounds.{IsCalm, ArePieces}
 

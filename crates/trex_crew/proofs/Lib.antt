@@ -1,8 +1,8 @@
-pub mod Works
-pub mod Entries
-pub mod Cores
-pub mod Drawing
-pub mod Lent
-pub mod Fetched
-pub mod Turned
-pub mod Same
+mod Works
+pub mod EntryLemmas
+pub mod CoreLemmas
+mod Drawing
+mod Lent
+mod Fetched
+mod Turned
+mod Same

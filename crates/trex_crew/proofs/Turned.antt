@@ -13,13 +13,13 @@ use Rattle.trex_claims.specs.Board.{IsPiece, below}
 use Rattle.trex_claims.specs.Moves.{vacant, turned_by, stand_at, rested, begun}
 use Rattle.trex_claims.specs.Boards.{Me}
 use Rattle.trex_claims.proofs.CallerLemmas.{stand_rested}
-use Rattle.trex_claims.proofs.Totals.{sure}
+use Rattle.trex_claims.proofs.TotalLemmas.{sure}
 use Rattle.trex_crew.specs.Orders.{AreInOrder}
 use Rattle.trex_crew.specs.Told.{Entered}
 use Rattle.trex_crew.specs.Workers.{MayDraw}
 use Rattle.trex_crew.specs.Rounds.{IsLent, AreLent, ArePieces}
 use Rattle.trex_crew.specs.Turns.{TookTurn, TookTurns}
-use Rattle.trex_crew.proofs.Cores.{cores_in_order, each_core}
+use Rattle.trex_crew.proofs.CoreLemmas.{cores_in_order, each_core}
 
 -- the cores that were put back are those of the works
 pub entered_works : {G T : Type 0} (entries : G → Option (List (ℕ × ℕ))) (core_of : T → ℕ) (cores : List ℕ) (works : List T) (round : ℕ) (old new : List G)

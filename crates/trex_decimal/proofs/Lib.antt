@@ -1,5 +1,5 @@
-pub mod Digits
-pub mod Fronts
-pub mod Numbers
-pub mod Pieces
-pub mod Powers
+mod Digits
+mod Fronts
+mod Numbers
+mod Pieces
+mod Powers

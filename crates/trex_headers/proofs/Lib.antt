@@ -1,3 +1,3 @@
-pub mod Sums
-pub mod Lengths
-pub mod Verifying
+mod Sums
+mod Lengths
+mod Verifying

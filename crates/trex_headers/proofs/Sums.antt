@@ -2,7 +2,7 @@
 use Rattle.std.proofs.Common.{◌≡◌, ℕ, ◌+◌, ◌-◌, ◌%◌, ◌<◌, List, [], ◌∷◌, ◌++◌, length, ap, arith, length-append}
 use Rattle.byteorder.specs.Endian.{big_bytes}
 use Rattle.trex_sum.specs.Checksum.{sum_of, fold_of}
-use Rattle.trex_sum.proofs.SumLaws.{sum_of-append}
+use Rattle.trex_sum.proofs.SumLemmas.{sum_of-append}
 use Rattle.trex_headers.specs.Header.{pseudo_ipv4, pseudo_ipv6, sealed}
 
 -- the parts of what a checksum covers, with zeros in its place, add up

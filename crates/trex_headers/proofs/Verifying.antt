@@ -6,7 +6,7 @@ use Rattle.std.proofs.Math.Seq.{drop-append-add, drop-append_seam, take-append_s
 use Rattle.std.specs.List.{slice_range}
 use Rattle.byteorder.specs.Endian.{big_bytes}
 use Rattle.trex_sum.specs.Checksum.{sum_of, fold_of, ones_for_zero, Verifies}
-use Rattle.trex_sum.proofs.Completing.{Completes, Completes-plain, Completes-ones_for_zero, sum_of-field}
+use Rattle.trex_sum.proofs.ChecksumLemmas.{Completes, Completes-plain, Completes-ones_for_zero, sum_of-field}
 use Rattle.trex_headers.specs.declared.layer.Version.{Version}
 use Rattle.trex_headers.specs.declared.layer.Version.TheVariants.{V4, V6}
 use Rattle.trex_headers.specs.Layer.{Layer, Ethernet, Vlan, Ipv4, Ipv6, Tcp, Udp, Raw}

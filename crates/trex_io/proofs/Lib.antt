@@ -1,2 +1,2 @@
-pub mod Causes
-pub mod Texts
+pub mod FaultLemmas
+pub mod TextLemmas

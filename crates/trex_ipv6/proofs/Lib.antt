@@ -1,1 +1,1 @@
-pub mod AddressLemmas
+mod AddressLemmas

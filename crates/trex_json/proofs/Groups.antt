@@ -6,7 +6,7 @@ use Rattle.trex_profile.specs.declared.refusal.Breach.{Breach}
 use Rattle.trex_profile.specs.declared.rule.Rule.TheVariants.{BadEntry, BadStreamId, BadStream, BadEnabled, BadSelfStart, BadIsg, BadNext, BadActionCount, BadSeed, BadPacket, BadBinary, BadLayer, LayersTooLong, BadMode, BadRate, BadCount, BadIbg, BadFlowStats, BadVm, TooManyInstructions}
 use Rattle.trex_profile.specs.Order.{first, first_each}
 use Rattle.trex_profile.specs.Refusal.{rule}
-use Rattle.trex_profile.proofs.Groups.{after, group}
+use Rattle.trex_profile.proofs.RuleLemmas.{after, group}
 use Rattle.trex_json.specs.Kinds.{an_object}
 use Rattle.trex_json.specs.Layers.{has_binary, layer_rule, layers_of, order_rule, layers_rules, template_rules}
 use Rattle.trex_json.specs.Names.{wrong, value}

@@ -1,4 +1,4 @@
-pub mod JsonLemmas
-pub mod Groups
-pub mod Decimals
-pub mod Each
+mod JsonLemmas
+mod Groups
+mod Decimals
+mod Each

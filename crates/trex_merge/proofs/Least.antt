@@ -6,7 +6,7 @@ use Rattle.trex_merge.specs.declared.key.Key.{Key}
 use Rattle.trex_merge.specs.declared.place.Place.{Place}
 use Rattle.trex_merge.specs.Heads.{earlier_of, least_from}
 use Rattle.trex_merge.specs.Order.{BeginsNotBefore, is_before}
-use Rattle.trex_merge.proofs.Keys.{before_trans, before_between, not_both}
+use Rattle.trex_merge.proofs.KeyLemmas.{before_trans, before_between, not_both}
 
 -- ---- of several places
 

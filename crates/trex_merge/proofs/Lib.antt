@@ -1,10 +1,10 @@
-pub mod Keys
-pub mod Laws
-pub mod Lists
-pub mod Least
-pub mod Coming
-pub mod Parts
-pub mod Events
-pub mod Following
-pub mod Feeds
-pub mod Kept
+pub mod KeyLemmas
+pub mod OrderLemmas
+pub mod ListLemmas
+mod Least
+pub mod QueueLemmas
+mod Parts
+pub mod EventLemmas
+pub mod FrameLemmas
+pub mod FeedLemmas
+pub mod ShareLemmas

@@ -7,8 +7,8 @@ use Rattle.std.specs.List.{AllByRecursion, filter, range_with_len}
 use Rattle.trex_merge.specs.declared.key.Key.{Key}
 use Rattle.trex_merge.specs.Frames.{Frame, key_of, shares}
 use Rattle.trex_merge.specs.Order.{AreApart, AreDistinct, ComesBefore, EachPair, Has, IsRising, joined, ordered}
-use Rattle.trex_merge.proofs.Laws.{distinct-ordered, has-filter, ordered_is_only, pairs-filter, rising-ordered}
-use Rattle.trex_merge.proofs.Lists.{has-append, pairs-append}
+use Rattle.trex_merge.proofs.OrderLemmas.{distinct-ordered, has-filter, ordered_is_only, pairs-filter, rising-ordered}
+use Rattle.trex_merge.proofs.ListLemmas.{has-append, pairs-append}
 
 -- ---- the parts of a list that a number parts
 

@@ -1,3 +1,3 @@
-pub mod Answered
-pub mod Fronts
-pub mod Readings
+mod Answered
+mod Fronts
+pub mod ReadingLemmas

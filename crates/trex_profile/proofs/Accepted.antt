@@ -11,11 +11,11 @@ use Rattle.std.proofs.lemmas.List.Sums.{sum_by-append, sum_by-cons}
 use Rattle.trex_stamp.specs.declared.header.TheConstants.{SHORTEST_STAMPED}
 use Rattle.trex_vars.specs.Variable.{Variable, Tuple}
 use Rattle.trex_vars.specs.Value.{value_at}
-use Rattle.trex_vars.proofs.Between.{value-between}
+use Rattle.trex_vars.proofs.BoundsLemmas.{value-between}
 use Rattle.trex_vm.specs.declared.instr.Instr.{Instr}
 use Rattle.trex_vm.specs.Program.{TakesFrom, AreSound}
 use Rattle.trex_vm.specs.Rules.{least_length, room_of, is_trim, trim_wrong, writes_past, misses_header, overwrites_header_kind, accepts}
-use Rattle.trex_vm.proofs.Ends.{AreBetween, trimmed-between}
+use Rattle.trex_vm.proofs.ProgramLemmas.{AreBetween, trimmed-between}
 use Rattle.trex_profile.specs.declared.rule.Rule.{Rule}
 use Rattle.trex_profile.specs.declared.rule.Rule.TheVariants.{TwoTrims, TrimRange, NoRoomForStamp, WriteRoom, BadFix, WriteOnShape}
 use Rattle.trex_profile.specs.declared.step.Step.{Step}
@@ -24,7 +24,7 @@ use Rattle.trex_profile.specs.InstrRules.{does, twice_rule, trim_rule, field_rul
 use Rattle.trex_profile.specs.Order.{first, first_each}
 use Rattle.trex_profile.specs.Refusal.{rule, rule_there}
 use Rattle.trex_profile.specs.Steps.{instrs_of, program_of}
-use Rattle.trex_profile.proofs.Steps.{first-none}
+use Rattle.trex_profile.proofs.OrderLemmas.{first-none}
 
 there-none : (r : Rule) (place : ℕ) (test : Bool) → rule_there r place test ≡ None → test ≡ false
 there-none r place true none = absurd (cc)

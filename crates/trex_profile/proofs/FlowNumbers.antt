@@ -8,7 +8,7 @@ use Rattle.trex_profile.specs.Cross.{flows, has_flow, flow_refusal}
 use Rattle.trex_profile.specs.Member.{member_stream}
 use Rattle.trex_profile.specs.Order.{first_each}
 use Rattle.trex_profile.specs.Stream.{Stream}
-use Rattle.trex_profile.proofs.Steps.{first_each-next}
+use Rattle.trex_profile.proofs.OrderLemmas.{first_each-next}
 
 one-flow : (s : Stream) → flows (s ∷ []) ≡ option_to_list s.flow
 one-flow s = by_case s.flow

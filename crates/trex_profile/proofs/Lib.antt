@@ -1,12 +1,12 @@
-pub mod Periods
-pub mod Visiting
-pub mod Noting
-pub mod Steps
-pub mod Members
-pub mod Rounds
-pub mod Walkable
-pub mod Naming
-pub mod Operands
-pub mod Accepted
-pub mod Groups
-pub mod FlowNumbers
+mod Periods
+mod Visiting
+mod Noting
+pub mod OrderLemmas
+mod Members
+mod Rounds
+mod Walkable
+mod Naming
+mod Operands
+mod Accepted
+pub mod RuleLemmas
+mod FlowNumbers

@@ -16,7 +16,7 @@ use Rattle.trex_profile.specs.Order.{first_each}
 use Rattle.trex_profile.specs.Refusal.{whole_stream, in_stream}
 use Rattle.trex_profile.specs.Stream.{Stream}
 use Rattle.trex_profile.specs.Visits.{has, reach_at, is_shared}
-use Rattle.trex_profile.proofs.Steps.{first_each-here, first_each-next}
+use Rattle.trex_profile.proofs.OrderLemmas.{first_each-here, first_each-next}
 
 -- the stream of the member at a position
 stream-at : (members : List Member) (at : ℕ) (m : Member) → at < length members → m ≡ get_or members at m

@@ -2,7 +2,7 @@
 use Rattle.std.proofs.Common.{◌≡◌, inl, inr, ℕ, ◌+◌, ◌≤◌, ◌<◌, ◌==◌, Bool, true, false, List, [], ◌∷◌, length, map, All, Option, Some, None, IfSome, option_map, if◌then◌else◌, refl, arith}
 use Rattle.std.specs.List.{AllByRecursion, find}
 use Rattle.std.proofs.lemmas.List.Elements.{All-from_recursion, recursion_from_All}
-use Rattle.trex_merge.proofs.Lists.{all-append}
+use Rattle.trex_merge.proofs.ListLemmas.{all-append}
 use Rattle.trex_layers.specs.declared.places.Layers.{Layers}
 use Rattle.trex_fields.specs.Bytes.{IsSize}
 use Rattle.std.specs.Prelude.{unwrap_or}

@@ -26,7 +26,7 @@ use Rattle.trex_profile.specs.Links.{ids, place_of, is_endless, if_enabled, effe
 use Rattle.trex_profile.specs.Reached.{AreRising}
 use Rattle.trex_profile.specs.Visits.{Round, has, link_at, round_of, reach_at, is_shared}
 use Rattle.trex_profile.proofs.Rounds.{has-more, has-head, AreApart, AreUnshared, IsRound, round_of-round, round_of-some, distinct-apart, orders, orders-apart}
-use Rattle.trex_profile.proofs.Steps.{first-none, starts_from-rising}
+use Rattle.trex_profile.proofs.OrderLemmas.{first-none, starts_from-rising}
 
 option_map-none : {A B : Type 0} (f : A → B) (o : Option A) → option_map f o ≡ None → o ≡ None
 option_map-none f None none = refl

@@ -4,7 +4,7 @@ use Rattle.std.specs.List.{flat_map}
 use Rattle.std.proofs.lemmas.List.{map-append}
 use Rattle.std.proofs.lemmas.Grind.{flat_map-append}
 use Rattle.trex_io.specs.Texts.{WrotePart}
-use Rattle.trex_io.proofs.Texts.{Wrote-after, WrotePart-after, WrotePart-longer}
+use Rattle.trex_io.proofs.TextLemmas.{Wrote-after, WrotePart-after, WrotePart-longer}
 use Rattle.trex_pcap.specs.Writing.{Packet, file_header, record_of, capture_of}
 use Rattle.trex_run.specs.Pieces.{WrittenAndPending}
 use Rattle.trex_run.proofs.ListLemmas.{take-front, take-next}

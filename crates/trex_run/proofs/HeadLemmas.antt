@@ -6,11 +6,11 @@ use Rattle.trex_merge.specs.declared.next.Next.{Next}
 use Rattle.trex_merge.specs.declared.next.Next.TheVariants.{Packet, Need, End}
 use Rattle.trex_merge.specs.Frames.{Frame, key_of, sequence}
 use Rattle.trex_merge.specs.Machine.{MillState, next_in}
-use Rattle.trex_merge.proofs.Events.{next_in_sequence}
+use Rattle.trex_merge.proofs.EventLemmas.{next_in_sequence}
 use Rattle.std.proofs.lemmas.List.{length-take-le}
 use Rattle.trex_merge.specs.Order.{ordered}
 use Rattle.trex_merge.specs.Queues.{Queue, all_waiting, stem, waiting_at}
-use Rattle.trex_merge.proofs.Lists.{all-append_left}
+use Rattle.trex_merge.proofs.ListLemmas.{all-append_left}
 use Rattle.trex_profile.specs.Stream.{Stream}
 use Rattle.trex_report.specs.declared.report.Tally.{Tally}
 use Rattle.trex_run.specs.Capture.{tallies}

@@ -1,11 +1,11 @@
-pub mod ListLemmas
-pub mod TallyLemmas
-pub mod CaptureLemmas
-pub mod MillLemmas
+mod ListLemmas
+mod TallyLemmas
+mod CaptureLemmas
+mod MillLemmas
 pub mod RoundsLemmas
-pub mod ShareLemmas
-pub mod TurnLemmas
-pub mod HeadLemmas
-pub mod ReadyLemmas
+mod ShareLemmas
+mod TurnLemmas
+mod HeadLemmas
+mod ReadyLemmas
 pub mod StateLemmas
-pub mod CleanLemmas
+mod CleanLemmas

@@ -9,8 +9,8 @@ use Rattle.trex_merge.specs.Frames.{Frame, key_of}
 use Rattle.trex_merge.specs.Machine.{Emit, IsMill, MillState, emitted, happens, next_in, run}
 use Rattle.trex_merge.specs.Order.{ordered, joined}
 use Rattle.trex_merge.specs.Queues.{Queue, at_place, is_needy, next_of, popped, refilled, stem, waiting_at}
-use Rattle.trex_merge.proofs.Coming.{all_is_end, end_is_all, need_is_first, packet_is_least}
-use Rattle.trex_merge.proofs.Events.{emit_keeps, first_waits}
+use Rattle.trex_merge.proofs.QueueLemmas.{all_is_end, end_is_all, need_is_first, packet_is_least}
+use Rattle.trex_merge.proofs.EventLemmas.{emit_keeps, first_waits}
 use Rattle.trex_run.specs.Step.{is_packet, queues_after, round_from, mill_after, packet_ahead}
 
 -- ---- what comes next

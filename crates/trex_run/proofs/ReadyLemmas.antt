@@ -7,9 +7,9 @@ use Rattle.trex_merge.specs.declared.next.Next.{Next}
 use Rattle.trex_merge.specs.declared.next.Next.TheVariants.{Packet, Need, End}
 use Rattle.trex_merge.specs.Frames.{Frame, key_of, sequence, share}
 use Rattle.trex_merge.specs.Machine.{Emit, HaveShares, IsEnded, IsMill, MillState, happens, next_in, run}
-use Rattle.trex_merge.proofs.Kept.{emit_shares, start_shares}
-use Rattle.trex_merge.proofs.Events.{emit_keeps, run_keeps, sent_whole, start_is}
-use Rattle.trex_merge.proofs.Coming.{end_is_ended, packet_is_least}
+use Rattle.trex_merge.proofs.ShareLemmas.{emit_shares, start_shares}
+use Rattle.trex_merge.proofs.EventLemmas.{emit_keeps, run_keeps, sent_whole, start_is}
+use Rattle.trex_merge.proofs.QueueLemmas.{end_is_ended, packet_is_least}
 use Rattle.std.proofs.lemmas.List.{length-map, length-take-le}
 use Rattle.trex_merge.specs.Order.{AreDistinct, ordered}
 use Rattle.trex_merge.specs.Queues.{Queue, all_waiting, next_of, refilled}

@@ -7,8 +7,8 @@ use Rattle.std.proofs.lemmas.List.Sorted.{IsPermutation-append_left, IsPermutati
 use Rattle.std.proofs.lemmas.Simd.{map-map}
 use Rattle.std.proofs.Math.Nat.{mul-div_cancel, zero-div}
 use Rattle.trex_crew.specs.Told.{IfTold}
-use Rattle.trex_crew.proofs.Cores.{range_snoc}
-use Rattle.trex_crew.proofs.Entries.{all_told, told_nothing, told_twice}
+use Rattle.trex_crew.proofs.CoreLemmas.{range_snoc}
+use Rattle.trex_crew.proofs.EntryLemmas.{all_told, told_nothing, told_twice}
 use Rattle.trex_merge.specs.declared.next.Next.{Next}
 use Rattle.trex_merge.specs.declared.next.Next.TheVariants.{Packet, Need, End}
 use Rattle.trex_merge.specs.Frames.{Frame}

@@ -10,7 +10,7 @@ use Rattle.trex_merge.specs.Machine.{next_in}
 use Rattle.std.proofs.lemmas.List.{length-drop, take-map}
 use Rattle.std.proofs.lemmas.Option.{slice_get_within}
 use Rattle.trex_merge.specs.Order.{AreDistinct, IsRising, ordered}
-use Rattle.trex_merge.proofs.Laws.{all_at, all_from, ordered_kept, same-ordered}
+use Rattle.trex_merge.proofs.OrderLemmas.{all_at, all_from, ordered_kept, same-ordered}
 use Rattle.trex_profile.specs.Stream.{Stream}
 use Rattle.trex_run.specs.Capture.{sequence as run_sequence}
 use Rattle.trex_words.specs.declared.asked.RunAsk.{RunAsk}

@@ -4,7 +4,7 @@ use Rattle.std.specs.List.{AllByRecursion}
 use Rattle.std.specs.Option.{option_map_or}
 use Rattle.std.proofs.lemmas.List.Elements.{filter-append}
 use Rattle.std.proofs.lemmas.List.Sums.{sum_by-append, sum_by-cons, length-filter, count_by-le-length}
-use Rattle.trex_merge.proofs.Laws.{all-filter}
+use Rattle.trex_merge.proofs.OrderLemmas.{all-filter}
 use Rattle.trex_run.specs.Tallies.{one_more, counted, AtMostPackets}
 use Rattle.trex_run.specs.State.{IsShort}
 use Rattle.trex_run.proofs.ListLemmas.{all_take}

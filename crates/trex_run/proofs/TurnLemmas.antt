@@ -9,8 +9,8 @@ use Rattle.trex_merge.specs.Frames.{Frame, key_of}
 use Rattle.trex_merge.specs.Machine.{IsMill, MillState}
 use Rattle.trex_merge.specs.Order.{joined, ordered}
 use Rattle.trex_merge.specs.Queues.{Queue, is_needy, is_none_left, refilled, stem}
-use Rattle.trex_merge.proofs.Laws.{all_at, all_from, same-ordered}
-use Rattle.trex_merge.proofs.Lists.{all-append_left, all-append_right}
+use Rattle.trex_merge.proofs.OrderLemmas.{all_at, all_from, same-ordered}
+use Rattle.trex_merge.proofs.ListLemmas.{all-append_left, all-append_right}
 use Rattle.trex_run.specs.State.{IsShort}
 use Rattle.trex_run.specs.Ready.{queues_of}
 

@@ -1,5 +1,5 @@
-pub mod Headers
-pub mod Values
-pub mod Several
-pub mod Kept
+mod Headers
+mod Values
+mod Several
+mod Kept
 mod Layered

@@ -1,16 +1,16 @@
-pub mod Periods
-pub mod Offsets
-pub mod Turns
-pub mod Splits
-pub mod Strides
-pub mod Sent
-pub mod Following
-pub mod Reached
-pub mod Coming
-pub mod Later
-pub mod Pairs
-pub mod Heads
-pub mod Shares
-pub mod Rising
-pub mod Visits
-pub mod Numbered
+mod Periods
+mod Offsets
+mod Turns
+mod Splits
+mod Strides
+mod Sent
+pub mod RunLemmas
+mod Reached
+mod Coming
+mod Later
+mod Pairs
+mod Heads
+mod Shares
+mod Rising
+mod Visits
+mod Numbered

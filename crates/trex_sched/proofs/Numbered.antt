@@ -8,8 +8,8 @@ use Rattle.std.proofs.lemmas.List.Sums.{sum_by-append, sum_by-cons}
 use Rattle.std.proofs.Math.Nat.{add-mul}
 use Rattle.std.specs.List.{AllByRecursion, count_by, flat_map, range_with_len, slice_get}
 use Rattle.trex_merge.specs.Order.{AreApart, ComesBefore, EachPair, Has, IsRising, ordered}
-use Rattle.trex_merge.proofs.Laws.{all_at, all-filter, filter-ordered, ordered_kept, pairs-filter}
-use Rattle.trex_merge.proofs.Lists.{all-append, pairs-append_right}
+use Rattle.trex_merge.proofs.OrderLemmas.{all_at, all-filter, filter-ordered, ordered_kept, pairs-filter}
+use Rattle.trex_merge.proofs.ListLemmas.{all-append, pairs-append_right}
 use Rattle.trex_sched.specs.declared.chain.Leg.{Leg}
 use Rattle.trex_sched.specs.declared.run.Run.{Run}
 use Rattle.trex_sched.specs.declared.slot.Slot.{Slot}
@@ -20,7 +20,7 @@ use Rattle.trex_sched.specs.Runs.{runs}
 use Rattle.trex_sched.specs.Times.{HasPackets, size}
 use Rattle.trex_sched.specs.ToCome.{IsReached}
 use Rattle.trex_sched.specs.Walks.{all_entries, HaveDistinctStreams}
-use Rattle.trex_sched.proofs.Following.{all_get}
+use Rattle.trex_sched.proofs.RunLemmas.{all_get}
 use Rattle.trex_sched.proofs.Offsets.{ends_together, offset_within}
 use Rattle.trex_sched.proofs.Pairs.{all_kept, all_more, all_range}
 use Rattle.trex_sched.proofs.Reached.{has_packets}

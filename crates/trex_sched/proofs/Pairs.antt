@@ -2,7 +2,7 @@
 use Rattle.std.proofs.Common.{◌≡◌, ℕ, zero, suc, ◌+◌, ◌<◌, ◌≤◌, Bool, true, false, cond, List, [], ◌∷◌, ◌++◌, map, refl, arith}
 use Rattle.std.specs.List.{AllByRecursion, filter, flat_map, range_with_len}
 use Rattle.trex_merge.specs.Order.{EachPair}
-use Rattle.trex_merge.proofs.Lists.{all-append}
+use Rattle.trex_merge.proofs.ListLemmas.{all-append}
 
 -- what holds of each element that passes holds of each element that is kept
 pub all_kept : {X : Type 0} (P : X → Type 0) (test : X → Bool) (xs : List X) → ((x : X) → test x ≡ true → P x) → AllByRecursion P (filter test xs)

@@ -12,7 +12,7 @@ use Rattle.trex_sched.specs.Runs.{run_after, run_at}
 use Rattle.trex_sched.specs.Times.{HasPackets, size}
 use Rattle.trex_sched.specs.ToCome.{back_of, IsReached, visits_of}
 use Rattle.trex_sched.proofs.Offsets.{size_pos}
-use Rattle.trex_sched.proofs.Following.{all_get, begins, follows, Follows, lasts_long}
+use Rattle.trex_sched.proofs.RunLemmas.{all_get, begins, follows, Follows, lasts_long}
 
 -- a leg visited in this round already, and one that isn't
 visits_before : (run : Run) (place : ℕ) → place < run.place → visits_of run place ≡ run.visit + 1

@@ -4,7 +4,7 @@ use Rattle.std.proofs.lemmas.Bool.Decides.{nat_tests}
 use Rattle.std.proofs.Math.Nat.{add-mul, mod-one, mul-le-mul_right}
 use Rattle.std.specs.List.{AllByRecursion, slice_get, range_with_len}
 use Rattle.trex_merge.specs.Order.{AreApart, AreDistinct, ComesBefore, EachPair, Has, IsRising}
-use Rattle.trex_merge.proofs.Laws.{all-filter, pairs-filter}
+use Rattle.trex_merge.proofs.OrderLemmas.{all-filter, pairs-filter}
 use Rattle.trex_sched.specs.declared.chain.Leg.{Leg}
 use Rattle.trex_sched.specs.declared.run.Run.{Run}
 use Rattle.trex_sched.specs.declared.slot.Slot.{Slot}
@@ -13,7 +13,7 @@ use Rattle.trex_sched.specs.Entries.{entries, key_of, run_entries, share, slot_o
 use Rattle.trex_sched.specs.Runs.{run_after, run_at, runs, runs_from}
 use Rattle.trex_sched.specs.Times.{HasPackets, size, span}
 use Rattle.trex_sched.specs.ToCome.{IsReached}
-use Rattle.trex_sched.proofs.Following.{all_get, follows, Follows, runs_none}
+use Rattle.trex_sched.proofs.RunLemmas.{all_get, follows, Follows, runs_none}
 use Rattle.trex_sched.proofs.Offsets.{ends_together, offset_rising, offset_spread, offset_within, run_ends}
 use Rattle.trex_sched.proofs.Pairs.{all_flat, all_kept, all_more, all_range, pairs_flat, pairs_more, pairs_range}
 use Rattle.trex_sched.proofs.Reached.{has_packets, reached_first, reached_next, sent_before}

@@ -3,8 +3,8 @@ use Rattle.std.proofs.Common.{◌≡◌, ℕ, ◌==◌, ◌%◌, ◌⊎◌, inl,
 use Rattle.std.proofs.lemmas.List.Elements.{filter-append}
 use Rattle.std.specs.List.{AllByRecursion, filter}
 use Rattle.trex_merge.specs.Order.{AreApart, AreDistinct, EachPair, Has, IsRising, joined}
-use Rattle.trex_merge.proofs.Laws.{all_at, all_from, pairs-filter}
-use Rattle.trex_merge.proofs.Lists.{all-append, pairs_across, pairs-append_right}
+use Rattle.trex_merge.proofs.OrderLemmas.{all_at, all_from, pairs-filter}
+use Rattle.trex_merge.proofs.ListLemmas.{all-append, pairs_across, pairs-append_right}
 use Rattle.trex_sched.specs.declared.chain.ChainSpec.{ChainSpec}
 use Rattle.trex_sched.specs.declared.chain.Leg.{Leg}
 use Rattle.trex_sched.specs.declared.slot.Slot.{Slot}

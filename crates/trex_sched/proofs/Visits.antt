@@ -9,7 +9,7 @@ use Rattle.trex_sched.specs.declared.run.Run.{Run}
 use Rattle.trex_sched.specs.Chain.{Chain, IsChain}
 use Rattle.trex_sched.specs.Runs.{later_runs, run_after, run_at, runs, runs_from}
 use Rattle.trex_sched.specs.ToCome.{back_of, IsReached}
-use Rattle.trex_sched.proofs.Following.{begins, enough_runs, follows, kept_none, later_step, runs_none}
+use Rattle.trex_sched.proofs.RunLemmas.{begins, enough_runs, follows, kept_none, later_step, runs_none}
 use Rattle.trex_sched.proofs.Reached.{reached_first, reached_next}
 
 -- how many earlier runs the leg at a place has, where the chain comes to a run

@@ -1,6 +1,6 @@
-pub mod Clean
-pub mod Members
-pub mod Pushes
-pub mod Spans
-pub mod Standing
-pub mod Listed
+mod Clean
+mod Members
+mod Pushes
+mod Spans
+mod Standing
+mod Listed

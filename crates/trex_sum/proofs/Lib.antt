@@ -1,3 +1,3 @@
-pub mod SumLaws
-pub mod Completing
-pub mod Pieces
+pub mod SumLemmas
+pub mod ChecksumLemmas
+mod Pieces

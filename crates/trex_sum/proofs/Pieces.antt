@@ -4,7 +4,7 @@ use Rattle.std.proofs.lemmas.Bool.Decides.{nat_tests}
 use Rattle.trex_sum.specs.declared.running.RunningSum.{RunningSum}
 use Rattle.trex_sum.specs.Checksum.{sum_of}
 use Rattle.trex_sum.specs.Running.{running}
-use Rattle.trex_sum.proofs.SumLaws.{sum_of-append, sum_of-append_odd}
+use Rattle.trex_sum.proofs.SumLemmas.{sum_of-append, sum_of-append_odd}
 
 -- what follows is summed by whether its first byte ends a word
 sum-more : (front piece : List ℕ) (odd : Bool) → (length front % 2 == 1) ≡ odd → sum_of front + sum_of (if odd then 0 ∷ piece else piece) ≡ sum_of (front ++ piece)

@@ -1,3 +1,3 @@
-pub mod Lines
-pub mod TooLong
+mod Lines
+mod TooLong
 mod EndsLemmas

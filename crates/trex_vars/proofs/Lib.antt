@@ -1,5 +1,5 @@
-pub mod Drawing
-pub mod Modulo
-pub mod Sound
-pub mod Turning
-pub mod Between
+pub mod DrawLemmas
+mod Modulo
+mod Sound
+mod Turning
+pub mod BoundsLemmas

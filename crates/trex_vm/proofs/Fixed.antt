@@ -6,9 +6,9 @@ use Rattle.std.proofs.lemmas.Bool.Decides.{nat_tests}
 use Rattle.std.specs.List.{slice_range}
 use Rattle.byteorder.specs.Endian.{big_bytes, big_number}
 use Rattle.trex_sum.specs.Checksum.{sum_of, fold_of, Verifies}
-use Rattle.trex_sum.proofs.Completing.{Completes, Completes-plain, Completes-ones_for_zero, sum_of-field}
+use Rattle.trex_sum.proofs.ChecksumLemmas.{Completes, Completes-plain, Completes-ones_for_zero, sum_of-field}
 use Rattle.trex_fields.specs.Bytes.{put}
-use Rattle.trex_fields.proofs.Puts.{length-put, get_or-put_before, put-put, slice_range-put, slice_range-same}
+use Rattle.trex_fields.proofs.BytesLemmas.{length-put, get_or-put_before, put-put, slice_range-put, slice_range-same}
 use Rattle.trex_vm.specs.declared.instr.L4Kind.{L4Kind}
 use Rattle.trex_vm.specs.declared.instr.L4Kind.TheVariants.{Tcp, Udp}
 use Rattle.trex_vm.specs.Fix.{with_checksum, header_length, header_at, written_sum, least_segment, sum_place, segment_length, segment_fits, pseudo_header, segment_at}

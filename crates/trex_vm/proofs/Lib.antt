@@ -1,5 +1,5 @@
-pub mod Fixed
-pub mod Steps
-pub mod Theorem
-pub mod Stamped
-pub mod Ends
+mod Fixed
+mod Steps
+mod Theorem
+mod Stamped
+pub mod ProgramLemmas

@@ -7,7 +7,7 @@ use Rattle.std.proofs.lemmas.List.Elements.{recursion_from_All}
 use Rattle.std.proofs.lemmas.List.Folds.{drop_split}
 use Rattle.std.specs.List.{slice_range}
 use Rattle.trex_fields.specs.Bytes.{put}
-use Rattle.trex_fields.proofs.Puts.{slice_range-same}
+use Rattle.trex_fields.proofs.BytesLemmas.{slice_range-same}
 use Rattle.trex_stamp.specs.declared.header.Stamp.{Stamp}
 use Rattle.trex_stamp.specs.Stamp.{stamp_bytes}
 use Rattle.trex_vars.specs.declared.value.VarValue.{VarValue}

@@ -10,7 +10,7 @@ use Rattle.byteorder.specs.Endian.{big_bytes}
 use Rattle.byteorder.specs.Numbers.{length-bytes_high_first, length-bytes_low_first}
 use Rattle.trex_sum.specs.Checksum.{sum_of, fold_of}
 use Rattle.trex_fields.specs.Bytes.{put}
-use Rattle.trex_fields.proofs.Puts.{length-put, get_or-put_before, get_or-put_after, put-put, slice_range-same}
+use Rattle.trex_fields.proofs.BytesLemmas.{length-put, get_or-put_before, get_or-put_after, put-put, slice_range-same}
 use Rattle.trex_vars.specs.declared.value.VarValue.{VarValue}
 use Rattle.trex_vm.specs.declared.instr.L4Kind.{L4Kind}
 use Rattle.trex_vm.specs.declared.instr.L4Kind.TheVariants.{Tcp, Udp}
@@ -25,7 +25,7 @@ use Rattle.trex_vm.specs.Write.{bytes_in, sum_in, shifted, masked, number_at}
 use Rattle.trex_vm.specs.Packet.{after, after_all}
 use Rattle.trex_vm.specs.Cover.{IsWithin, Covers, CoversByte, CoversSegment, FixVerifies, HeaderVerifies}
 use Rattle.trex_vm.specs.Rules.{writes_past, has_ipv4, finds_header, misses_header}
-use Rattle.trex_sum.proofs.Completing.{Completes-plain}
+use Rattle.trex_sum.proofs.ChecksumLemmas.{Completes-plain}
 use Rattle.trex_vm.proofs.Fixed.{Completes-written_sum, HoldsField-header_at, HoldsField-segment_at, with_checksum-verifies, segment_fits-tells, number-same, pseudo_header-same, sum_place-within}
 
 -- some bytes are put there, and the others are as they were

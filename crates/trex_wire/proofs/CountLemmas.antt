@@ -8,7 +8,7 @@ use Rattle.std.specs.List.{filter, range_with_len}
 use Rattle.trex_io.specs.Seen.{Seen}
 use Rattle.trex_merge.specs.declared.key.Key.{Key}
 use Rattle.trex_merge.specs.Order.{is_before, ordered, placed}
-use Rattle.trex_merge.proofs.Laws.{filter-ordered}
+use Rattle.trex_merge.proofs.OrderLemmas.{filter-ordered}
 use Rattle.trex_vars.specs.Value.{word_at}
 use Rattle.trex_wire.specs.declared.spec.WireSpec.{WireSpec}
 use Rattle.trex_wire.specs.declared.lanes.Due.{Due}

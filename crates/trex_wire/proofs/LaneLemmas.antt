@@ -6,8 +6,8 @@ use Rattle.std.specs.List.Sorted.{IsPermutation}
 use Rattle.trex_io.specs.Seen.{Seen}
 use Rattle.trex_merge.specs.declared.key.Key.{Key}
 use Rattle.trex_merge.specs.Order.{AreApart, AreDistinct, Has, HaveSame, ordered}
-use Rattle.trex_merge.proofs.Laws.{all_at, ordered_is_only, rising-ordered, same-ordered}
-use Rattle.trex_merge.proofs.Lists.{all-append, pairs-append}
+use Rattle.trex_merge.proofs.OrderLemmas.{all_at, ordered_is_only, rising-ordered, same-ordered}
+use Rattle.trex_merge.proofs.ListLemmas.{all-append, pairs-append}
 use Rattle.trex_vars.specs.Value.{word_at}
 use Rattle.trex_wire.specs.declared.lanes.Due.{Due}
 use Rattle.trex_wire.specs.declared.spec.WireSpec.{WireSpec}

@@ -9,9 +9,9 @@ use Rattle.trex_merge.specs.Frames.{Frame, key_of}
 use Rattle.trex_merge.specs.Machine.{IsMill, MillState, emitted}
 use Rattle.trex_merge.specs.Order.{AreDistinct, ComesBefore, IsRising, joined, ordered}
 use Rattle.trex_merge.specs.Queues.{Queue, at_place, is_none_left, next_of, popped, stem, waiting_at}
-use Rattle.trex_merge.proofs.Coming.{end_is_ended, need_is_first, packet_is_least}
-use Rattle.trex_merge.proofs.Events.{emit_keeps, first_waits, sent_whole}
-use Rattle.trex_merge.proofs.Following.{distinct-map, map-ordered}
+use Rattle.trex_merge.proofs.QueueLemmas.{end_is_ended, need_is_first, packet_is_least}
+use Rattle.trex_merge.proofs.EventLemmas.{emit_keeps, first_waits, sent_whole}
+use Rattle.trex_merge.proofs.FrameLemmas.{distinct-map, map-ordered}
 use Rattle.trex_stats.specs.Counts.{Counts, StandsFor}
 use Rattle.trex_wire.specs.declared.lanes.Due.{Due}
 use Rattle.trex_wire.specs.declared.merge.Lane.{Lane}

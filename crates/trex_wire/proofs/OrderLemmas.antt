@@ -9,8 +9,8 @@ use Rattle.std.specs.Ordering.{is_lt, nat_cmp, ordering_then}
 use Rattle.std.specs.declared.cmp.Ordering.{Ordering}
 use Rattle.trex_merge.specs.declared.key.Key.{Key}
 use Rattle.trex_merge.specs.Order.{AreApart, AreDistinct, ComesBefore, IsRising}
-use Rattle.trex_merge.proofs.Keys.{before_is, before_trans, by_number, by_stream, by_time, one_first}
-use Rattle.trex_merge.proofs.Laws.{all_at, all_from}
+use Rattle.trex_merge.proofs.KeyLemmas.{before_is, before_trans, by_number, by_stream, by_time, one_first}
+use Rattle.trex_merge.proofs.OrderLemmas.{all_at, all_from}
 use Rattle.trex_wire.specs.declared.lanes.Due.{Due}
 use Rattle.trex_wire.specs.Lanes.{key_in}
 

@@ -3,7 +3,7 @@ use Rattle.std.proofs.Common.{◌≡◌, ℕ, ◌≤◌, List, [], ◌∷◌, �
 use Rattle.std.proofs.lemmas.List.{drop-append-le, drop_at, map-append, take-append-le, take_all}
 use Rattle.std.specs.List.{AllByRecursion}
 use Rattle.trex_io.specs.Seen.{Seen}
-use Rattle.trex_merge.proofs.Lists.{all-append}
+use Rattle.trex_merge.proofs.ListLemmas.{all-append}
 use Rattle.trex_wire.specs.declared.store.Kept.{Kept}
 use Rattle.trex_wire.specs.Stored.{IsWithin, seen_in}
 

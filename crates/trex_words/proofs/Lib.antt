@@ -1,4 +1,4 @@
-pub mod Faultless
-pub mod Firsts
-pub mod Numbers
-pub mod Words
+mod Faultless
+mod Firsts
+mod Numbers
+mod Words

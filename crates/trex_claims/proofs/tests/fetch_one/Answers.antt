@@ -1,7 +1,7 @@
 use Rattle.std.proofs.Common.{◌∙◌, ap}
 use Rattle.trex_claims.specs.Moves.{stand_at, rested, emptied}
 use Rattle.trex_claims.proofs.CallerLemmas.{stand_else}
-use Rattle.trex_claims.proofs.Slots.{rested_what}
+use Rattle.trex_claims.proofs.SlotLemmas.{rested_what}
 use Rattle.trex_claims.proofs.tests.fetch_one.Goals as goal
 
 pub returns-clause-others : goal.returns-clause-others

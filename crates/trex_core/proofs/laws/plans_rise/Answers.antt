@@ -2,8 +2,8 @@ use Rattle.std.proofs.Common.{◌≡◌, ℕ, ◌<◌, List, [], ◌∷◌, None
 use Rattle.std.specs.List.{AllByRecursion}
 use Rattle.trex_merge.specs.Frames.{Frame, key_of}
 use Rattle.trex_merge.specs.Order.{AreDistinct, IsRising}
-use Rattle.trex_merge.proofs.Following.{distinct-map, map-ordered}
-use Rattle.trex_merge.proofs.Laws.{distinct-ordered, rising-ordered}
+use Rattle.trex_merge.proofs.FrameLemmas.{distinct-map, map-ordered}
+use Rattle.trex_merge.proofs.OrderLemmas.{distinct-ordered, rising-ordered}
 use Rattle.trex_profile.specs.Admission.{refusal_of}
 use Rattle.trex_profile.specs.Chains.{chains_of}
 use Rattle.trex_sched.specs.declared.slot.Slot.{Slot}

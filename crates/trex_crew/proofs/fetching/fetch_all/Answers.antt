@@ -5,7 +5,7 @@ use Rattle.trex_claims.specs.Board.{IsPiece, below}
 use Rattle.trex_claims.specs.Boards.{cores_of}
 use Rattle.trex_claims.specs.Moves.{rested, stand_at}
 use Rattle.trex_claims.specs.Views.{IsEmpty, IsFull, times}
-use Rattle.trex_claims.proofs.Slots.{rested_what}
+use Rattle.trex_claims.proofs.SlotLemmas.{rested_what}
 use Rattle.trex_crew.specs.Rounds.{IsCalm, ArePieces}
 use Rattle.trex_crew.proofs.Fetched.{pieces_snoc, still_ahead}
 use Rattle.trex_crew.proofs.fetching.fetch_all.Goals as goal

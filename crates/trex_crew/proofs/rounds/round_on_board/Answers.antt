@@ -5,7 +5,7 @@ use Rattle.trex_claims.specs.declared.view.Stand.{Stand}
 use Rattle.trex_claims.specs.Board.{below}
 use Rattle.trex_claims.specs.Moves.{vacant, stand_at, rested}
 use Rattle.trex_claims.specs.Views.{IsFull, times}
-use Rattle.trex_crew.proofs.Entries.{entered_beside}
+use Rattle.trex_crew.proofs.EntryLemmas.{entered_beside}
 use Rattle.trex_crew.proofs.Lent.{lent_full}
 use Rattle.trex_crew.proofs.Turned.{all_kept, all_turned, begun_ready, entered_works, may_turn, stand_turned}
 use Rattle.trex_crew.proofs.rounds.round_on_board.Goals as goal

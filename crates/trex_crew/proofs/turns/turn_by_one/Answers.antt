@@ -2,7 +2,7 @@ use Rattle.std.proofs.Common.{◌≡◌, ◌<◌, ◌+◌, ◌++◌, ◌∷◌, 
 use Rattle.std.proofs.lemmas.List.{take_more}
 use Rattle.trex_crew.specs.Turns.{TookTurn}
 use Rattle.trex_crew.proofs.Works.{kept_set, turned_more, not_turned}
-use Rattle.trex_crew.proofs.Entries.{entered_more, entered_of}
+use Rattle.trex_crew.proofs.EntryLemmas.{entered_more, entered_of}
 use Rattle.trex_crew.proofs.turns.turn_by_one.Goals as goal
 
 pub loop-work-preserved : goal.loop-work-preserved

@@ -4,8 +4,8 @@ use Rattle.std.proofs.Math.Seq.{take-append_seam}
 use Rattle.std.proofs.lemmas.List.{take_rest}
 use Rattle.std.proofs.KnownBytes.{Appends-kept}
 use Rattle.trex_io.specs.Texts.{Wrote}
-use Rattle.trex_io.proofs.Causes.{HasCause-failed}
-use Rattle.trex_io.proofs.Texts.{Wrote-after}
+use Rattle.trex_io.proofs.FaultLemmas.{HasCause-failed}
+use Rattle.trex_io.proofs.TextLemmas.{Wrote-after}
 use Rattle.trex_io.proofs.writing.write_all.Goals as goal
 
 -- the front of the rest goes to what is done

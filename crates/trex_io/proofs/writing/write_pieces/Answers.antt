@@ -1,7 +1,7 @@
 -- The pieces stopped half-way through this one.
 use Rattle.std.proofs.Common.{[]}
-use Rattle.trex_io.proofs.Causes.{HasCause-failed}
-use Rattle.trex_io.proofs.Texts.{WrotePart-pieces}
+use Rattle.trex_io.proofs.FaultLemmas.{HasCause-failed}
+use Rattle.trex_io.proofs.TextLemmas.{WrotePart-pieces}
 use Rattle.trex_io.proofs.writing.write_pieces.Goals as goal
 
 pub returns-in-Err : goal.returns-in-Err

@@ -3,7 +3,7 @@ use Rattle.std.proofs.lemmas.Grind.{common_steps}
 use Rattle.serde_json.specs.View.{view}
 use Rattle.trex_profile.specs.Refusal.{in_stream}
 use Rattle.trex_profile.specs.Stream.{raw_stream}
-use Rattle.trex_profile.proofs.Steps.{first_each-next, unless-kept}
+use Rattle.trex_profile.proofs.OrderLemmas.{first_each-next, unless-kept}
 use Rattle.trex_json.specs.Shape.{entry_rules, entry_stream, shape_refusal}
 use Rattle.trex_json.proofs.Each.{map-one_more}
 use Rattle.trex_json.proofs.entry.each_entry.Goals as goal

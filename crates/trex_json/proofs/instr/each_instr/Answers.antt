@@ -4,7 +4,7 @@ use Rattle.std.proofs.lemmas.List.{map-append}
 use Rattle.std.proofs.lemmas.List.Elements.{All-push}
 use Rattle.serde_json.specs.View.{view}
 use Rattle.trex_profile.specs.Instruction.{instruction, IsRawInstr}
-use Rattle.trex_profile.proofs.Steps.{first_each-next, unless-kept}
+use Rattle.trex_profile.proofs.OrderLemmas.{first_each-next, unless-kept}
 use Rattle.trex_json.specs.Operands.{instr_rules, instruction_of}
 use Rattle.trex_json.proofs.Each.{map-one_more}
 use Rattle.trex_json.proofs.instr.each_instr.Goals as goal

@@ -1,7 +1,7 @@
 use Rattle.std.proofs.Common.{◌≡◌, ℕ, ◌≤◌, ◌++◌, List, length, take, drop, vec_len, ap, ◌∙◌, arith}
 use Rattle.std.proofs.lemmas.List.{take-append-le, take_all}
 use Rattle.trex_pcap.specs.Place.{Place}
-use Rattle.trex_measure.proofs.Progress.{Progress-record, Progress-end, Progress-fault, exact_kept, exact_fault, sound_fault}
+use Rattle.trex_measure.proofs.ProgressLemmas.{Progress-record, Progress-end, Progress-fault, exact_kept, exact_fault, sound_fault}
 use Rattle.trex_measure.proofs.reading.read_into.Goals as goal
 
 -- a buffer whose bytes were all lent has those that are given back

@@ -1,5 +1,5 @@
 use Rattle.std.proofs.Common.{◌≡◌, ◌-◌, ◌≤◌, true, vec_len}
-use Rattle.trex_measure.proofs.Progress.{Progress}
+use Rattle.trex_measure.proofs.ProgressLemmas.{Progress}
 use Rattle.trex_measure.proofs.reading.read_into.Given as goal
 
 abbrev pub invariant-records : goal.invariant-records

@@ -3,7 +3,7 @@ use Rattle.trex_merge.specs.Frames.{Frame, sequence}
 use Rattle.trex_merge.specs.Machine.{Event, IsEnded, IsPrefixOf, run, start}
 use Rattle.trex_merge.specs.Order.{AreDistinct}
 use Rattle.trex_merge.specs.Frames.{key_of}
-use Rattle.trex_merge.proofs.Events.{run_keeps, run_limit, sent_prefix, sent_whole, start_is}
+use Rattle.trex_merge.proofs.EventLemmas.{run_keeps, run_limit, sent_prefix, sent_whole, start_is}
 use Rattle.trex_merge.proofs.merge_laws.any_events.Goals as goal
 
 pub returns-clause-prefix : goal.returns-clause-prefix

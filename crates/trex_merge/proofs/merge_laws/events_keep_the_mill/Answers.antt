@@ -1,4 +1,4 @@
-use Rattle.trex_merge.proofs.Events.{emit_keeps, next_in_sequence, refill_keeps, run_keeps, sent_prefix, sent_whole, start_is}
+use Rattle.trex_merge.proofs.EventLemmas.{emit_keeps, next_in_sequence, refill_keeps, run_keeps, sent_prefix, sent_whole, start_is}
 use Rattle.trex_merge.proofs.merge_laws.events_keep_the_mill.Goals as goal
 
 pub returns-clause-start : goal.returns-clause-start

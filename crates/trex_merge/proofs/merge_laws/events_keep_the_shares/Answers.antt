@@ -1,4 +1,4 @@
-use Rattle.trex_merge.proofs.Kept.{emit_shares, refill_shares, start_shares}
+use Rattle.trex_merge.proofs.ShareLemmas.{emit_shares, refill_shares, start_shares}
 use Rattle.trex_merge.proofs.merge_laws.events_keep_the_shares.Goals as goal
 
 pub returns-clause-start : goal.returns-clause-start

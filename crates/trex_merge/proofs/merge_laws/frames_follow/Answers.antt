@@ -3,7 +3,7 @@ use Rattle.std.specs.List.{filter}
 use Rattle.trex_merge.specs.declared.key.Key.{Key}
 use Rattle.trex_merge.specs.Frames.{key_of}
 use Rattle.trex_merge.specs.Order.{ordered}
-use Rattle.trex_merge.proofs.Following.{distinct-map, map-filter, map-ordered}
+use Rattle.trex_merge.proofs.FrameLemmas.{distinct-map, map-filter, map-ordered}
 use Rattle.trex_merge.proofs.merge_laws.frames_follow.Goals as goal
 
 pub returns-clause-distinct : goal.returns-clause-distinct

@@ -1,4 +1,4 @@
-use Rattle.trex_merge.proofs.Coming.{all_is_end, end_is_all, end_is_ended, need_is_first, packet_is_least}
+use Rattle.trex_merge.proofs.QueueLemmas.{all_is_end, end_is_all, end_is_ended, need_is_first, packet_is_least}
 use Rattle.trex_merge.proofs.merge_laws.what_comes_next.Goals as goal
 
 pub returns-clause-packet : goal.returns-clause-packet

@@ -1,4 +1,4 @@
-use Rattle.trex_merge.proofs.Lists.{joined_none, ordered_least, pairs-joined, rising-set}
+use Rattle.trex_merge.proofs.ListLemmas.{joined_none, ordered_least, pairs-joined, rising-set}
 use Rattle.trex_merge.proofs.order.least_goes_first.Goals as goal
 
 pub returns-clause-first : goal.returns-clause-first

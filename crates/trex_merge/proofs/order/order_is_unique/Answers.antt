@@ -1,4 +1,4 @@
-use Rattle.trex_merge.proofs.Laws.{filter-ordered, ordered_first, ordered_is_only, ordered_kept, rising-ordered, same-ordered}
+use Rattle.trex_merge.proofs.OrderLemmas.{filter-ordered, ordered_first, ordered_is_only, ordered_kept, rising-ordered, same-ordered}
 use Rattle.trex_merge.proofs.order.order_is_unique.Goals as goal
 
 pub returns-clause-rising : goal.returns-clause-rising

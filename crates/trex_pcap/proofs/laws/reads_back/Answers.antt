@@ -1,4 +1,4 @@
-use Rattle.trex_pcap.proofs.Readings.{capture_back}
+use Rattle.trex_pcap.proofs.ReadingLemmas.{capture_back}
 use Rattle.trex_pcap.proofs.laws.reads_back.Goals as goal
 
 pub returns : goal.returns

@@ -1,7 +1,7 @@
 use Rattle.std.proofs.Common.{length, map, arith}
 use Rattle.std.proofs.lemmas.List.{length-map}
 use Rattle.trex_profile.specs.Member.{member_stream}
-use Rattle.trex_profile.proofs.Steps.{starts_from-rising}
+use Rattle.trex_profile.proofs.OrderLemmas.{starts_from-rising}
 use Rattle.trex_profile.proofs.chains.starts_of.Goals as goal
 
 pub returns-clause-rising : goal.returns-clause-rising

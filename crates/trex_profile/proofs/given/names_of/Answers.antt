@@ -4,7 +4,7 @@ use Rattle.trex_profile.specs.Given.{Given, given_of, is_given, is_empty_name, n
 use Rattle.trex_profile.specs.InstrRules.{name_rule}
 use Rattle.trex_profile.specs.Instruction.{instruction}
 use Rattle.trex_profile.proofs.Naming.{names-more, next_var-most, var_after-more, name_rule-none}
-use Rattle.trex_profile.proofs.Steps.{first_each-next}
+use Rattle.trex_profile.proofs.OrderLemmas.{first_each-next}
 use Rattle.trex_profile.proofs.given.names_of.Goals as goal
 
 pub loop-at-preserved : goal.loop-at-preserved

@@ -1,4 +1,4 @@
-use Rattle.trex_profile.proofs.Groups.{value_rules-list}
+use Rattle.trex_profile.proofs.RuleLemmas.{value_rules-list}
 use Rattle.trex_profile.proofs.order.value_rules_in_order.Goals as goal
 
 pub returns : goal.returns

@@ -7,7 +7,7 @@ use Rattle.trex_profile.specs.Given.{Given, given_of}
 use Rattle.trex_profile.specs.Instruction.{instruction}
 use Rattle.trex_profile.specs.Steps.{variables_from, step, instrs_of, program_of}
 use Rattle.trex_profile.proofs.Operands.{program-operands, steps-operands}
-use Rattle.trex_profile.proofs.Steps.{unless-kept}
+use Rattle.trex_profile.proofs.OrderLemmas.{unless-kept}
 use Rattle.trex_profile.proofs.parts.parts_of.Goals as goal
 
 pub returns-clause-vars : goal.returns-clause-vars

@@ -6,7 +6,7 @@ use Rattle.trex_profile.specs.Instruction.{instruction}
 use Rattle.trex_profile.specs.Order.{unless}
 use Rattle.trex_profile.specs.Steps.{variable_at, variables_from}
 use Rattle.trex_profile.proofs.Naming.{variables-more, sound-more}
-use Rattle.trex_profile.proofs.Steps.{first_each-next, fails-here, unless-kept}
+use Rattle.trex_profile.proofs.OrderLemmas.{first_each-next, fails-here, unless-kept}
 use Rattle.trex_profile.proofs.step.variables_of.Goals as goal
 
 pub loop-at-preserved : goal.loop-at-preserved

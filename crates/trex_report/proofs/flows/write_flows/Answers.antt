@@ -3,8 +3,8 @@ use Rattle.std.proofs.lemmas.Grind.{common_steps, flat_map-append}
 use Rattle.std.proofs.lemmas.List.{append-nil}
 use Rattle.std.specs.List.{flat_map}
 use Rattle.trex_io.specs.Texts.{Wrote, WrotePart}
-use Rattle.trex_io.proofs.Causes.{HasCause-failed}
-use Rattle.trex_io.proofs.Texts.{Wrote-after, WrotePart-after, WrotePart-longer, Writes-after}
+use Rattle.trex_io.proofs.FaultLemmas.{HasCause-failed}
+use Rattle.trex_io.proofs.TextLemmas.{Wrote-after, WrotePart-after, WrotePart-longer, Writes-after}
 use Rattle.trex_stats.specs.declared.line.FlowLine.{FlowLine}
 use Rattle.trex_io.specs.Seen.{Seen}
 use Rattle.trex_stats.specs.Counts.{Counts, StandsFor, flows_of, lines_in, lines_of}

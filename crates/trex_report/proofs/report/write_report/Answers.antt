@@ -1,4 +1,4 @@
-use Rattle.trex_io.proofs.Texts.{Writes-after}
+use Rattle.trex_io.proofs.TextLemmas.{Writes-after}
 use Rattle.trex_report.proofs.report.write_report.Goals as goal
 
 pub returns : goal.returns

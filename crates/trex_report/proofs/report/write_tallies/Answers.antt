@@ -1,6 +1,6 @@
 use Rattle.std.proofs.Common.{arith}
-use Rattle.trex_io.proofs.Texts.{WrotePart-pieces}
-use Rattle.trex_io.proofs.Causes.{HasCause-failed}
+use Rattle.trex_io.proofs.TextLemmas.{WrotePart-pieces}
+use Rattle.trex_io.proofs.FaultLemmas.{HasCause-failed}
 use Rattle.trex_report.specs.Texts.{tally_line}
 use Rattle.trex_report.proofs.report.write_tallies.Goals as goal
 

@@ -1,6 +1,6 @@
 use Rattle.std.proofs.Common.{ℕ, List, ◌++◌, sym, ap, ◌∙◌, subst}
 use Rattle.trex_io.specs.Texts.{Writes}
-use Rattle.trex_io.proofs.Texts.{Writes-after}
+use Rattle.trex_io.proofs.TextLemmas.{Writes-after}
 use Rattle.trex_run.specs.Capture.{capture_text}
 use Rattle.trex_run.specs.State.{all_of}
 use Rattle.trex_run.proofs.capture_writer.generate.Goals as goal

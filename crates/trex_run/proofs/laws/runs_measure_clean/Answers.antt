@@ -8,7 +8,7 @@ use Rattle.trex_pcap.specs.Writing.{capture_of}
 use Rattle.trex_profile.specs.Packets.{EndsInStamp}
 use Rattle.trex_profile.specs.Stream.{Stream}
 use Rattle.trex_sched.specs.Numbers.{AreNumbered, of_stream}
-use Rattle.trex_sched.proofs.Following.{all_get}
+use Rattle.trex_sched.proofs.RunLemmas.{all_get}
 use Rattle.trex_stats.specs.Counts.{arrivals}
 use Rattle.trex_stats.specs.Laws.{clean_line}
 use Rattle.trex_run.specs.Capture.{packet_at, sequence}

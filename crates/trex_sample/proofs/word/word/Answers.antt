@@ -2,7 +2,7 @@ use Rattle.std.proofs.Common.{◌≡◌, ap, ◌∙◌, zero-add}
 use Rattle.rand_pcg.specs.Lcg.{advance, started, increment_of}
 use Rattle.rand_pcg.specs.Pcg.{pcg64, multiplier_128}
 use Rattle.trex_vars.specs.Value.{stands_at, word_at}
-use Rattle.trex_vars.proofs.Drawing.{drawn-word, stands-new}
+use Rattle.trex_vars.proofs.DrawLemmas.{drawn-word, stands-new}
 use Rattle.trex_sample.proofs.word.word.Goals as goal
 
 pub returns : goal.returns

@@ -1,5 +1,5 @@
 use Rattle.std.proofs.Common.{sym, ◌∙◌}
-use Rattle.trex_sum.proofs.Completing.{folds_up, ones_fold}
+use Rattle.trex_sum.proofs.ChecksumLemmas.{folds_up, ones_fold}
 use Rattle.trex_sum.proofs.sums.ones_for_zero.Goals as goal
 
 pub returns-then-checksum-eq0-clause-verifies : goal.returns-then-checksum-eq0-clause-verifies

@@ -1,5 +1,5 @@
 use Rattle.std.proofs.Common.{length}
-use Rattle.trex_sum.proofs.SumLaws.{SumsSoFar}
+use Rattle.trex_sum.proofs.SumLemmas.{SumsSoFar}
 use Rattle.trex_sum.proofs.sums.sum_each_word.Given as goal
 
 abbrev pub invariant-loop-rest : goal.invariant-loop-rest

@@ -1,5 +1,5 @@
 use Rattle.std.proofs.Common.{ℕ, ◌+◌, ◌*◌, get_or, sym, ◌∙◌, arith}
-use Rattle.trex_sum.proofs.SumLaws.{four_words, sum_of-eight}
+use Rattle.trex_sum.proofs.SumLemmas.{four_words, sum_of-eight}
 use Rattle.trex_sum.proofs.sums.sum_four_words.Goals as goal
 
 pub returns-clause-value : goal.returns-clause-value

@@ -1,6 +1,6 @@
 use Rattle.std.proofs.Common.{ap, ◌∙◌, arith}
 use Rattle.trex_sum.specs.Checksum.{sum_of}
-use Rattle.trex_sum.proofs.SumLaws.{sum_of-split}
+use Rattle.trex_sum.proofs.SumLemmas.{sum_of-split}
 use Rattle.trex_sum.proofs.sums.sum_words.Goals as goal
 
 pub loop-rest-preserved : goal.loop-rest-preserved

@@ -1,7 +1,7 @@
 use Rattle.std.proofs.Common.{ap, ◌∙◌}
 use Rattle.rand_pcg.specs.Lcg.{advance}
 use Rattle.rand_pcg.specs.Pcg.{pcg64, multiplier_128}
-use Rattle.trex_vars.proofs.Drawing.{drawn-word, drawn-stands}
+use Rattle.trex_vars.proofs.DrawLemmas.{drawn-word, drawn-stands}
 use Rattle.trex_vars.proofs.words.draw_after.Goals as goal
 
 pub returns-clause-word : goal.returns-clause-word

@@ -8,7 +8,7 @@ use Rattle.trex_stamp.specs.declared.header.Stamp.{Stamp}
 use Rattle.trex_vm.specs.declared.instr.Instr.{Instr}
 use Rattle.trex_vm.specs.Program.{AreOperandsOf, ProgramView, TakesFrom, program_view}
 use Rattle.trex_vm.specs.Rules.{accepts}
-use Rattle.trex_vm.proofs.Ends.{AreBetween, accepted-program, accepts-tells, trimmed-between}
+use Rattle.trex_vm.proofs.ProgramLemmas.{AreBetween, accepted-program, accepts-tells, trimmed-between}
 use Rattle.trex_vm.proofs.Stamped.{packet-stamped}
 use Rattle.trex_vm.proofs.Theorem.{Runs, Runs-cut, length-packet}
 use Rattle.trex_vm.proofs.laws.programs_fit.Goals as goal

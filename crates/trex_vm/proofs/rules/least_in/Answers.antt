@@ -3,7 +3,7 @@ use Rattle.trex_vars.specs.Variable.{variable_of}
 use Rattle.trex_vars.specs.Bounds.{least}
 use Rattle.trex_vars.specs.declared.spec.VarSpec.{VarSpec}
 use Rattle.trex_vm.specs.Write.{part_of}
-use Rattle.trex_vm.proofs.Ends.{number_in-specs}
+use Rattle.trex_vm.proofs.ProgramLemmas.{number_in-specs}
 use Rattle.trex_vm.proofs.rules.least_in.Goals as goal
 
 pub returns : goal.returns

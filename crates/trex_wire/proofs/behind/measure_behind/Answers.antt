@@ -1,5 +1,5 @@
 use Rattle.std.proofs.Common.{ℕ, List, [], ◌∷◌, ◌∙◌, ap}
-use Rattle.trex_measure.proofs.Progress.{exact_kept}
+use Rattle.trex_measure.proofs.ProgressLemmas.{exact_kept}
 use Rattle.trex_wire.specs.Behind.{IsBehind}
 use Rattle.trex_wire.specs.Sent.{Sent}
 use Rattle.trex_wire.proofs.BehindLemmas.{ask_is, on_behind}

@@ -1,8 +1,8 @@
 use Rattle.std.proofs.Common.{◌-◌, ◌<◌, ◌++◌, ◌∷◌, [], List, get_or, length, map, sym, subst, arith}
 use Rattle.std.proofs.lemmas.List.{length-map}
 use Rattle.trex_merge.specs.Frames.{Frame}
-use Rattle.trex_merge.proofs.Coming.{packet_is_least}
-use Rattle.trex_merge.proofs.Feeds.{feed_waits, feed_within}
+use Rattle.trex_merge.proofs.QueueLemmas.{packet_is_least}
+use Rattle.trex_merge.proofs.FeedLemmas.{feed_waits, feed_within}
 use Rattle.trex_stats.specs.Counts.{StandsFor}
 use Rattle.trex_wire.specs.declared.lanes.Due.{Due}
 use Rattle.trex_wire.specs.declared.merge.Lane.{Lane}

@@ -2,7 +2,7 @@ use Rattle.std.proofs.Common.{ℕ, ◌+◌, ap, ◌∙◌, add-zero}
 use Rattle.rand_pcg.specs.Lcg.{state_after}
 use Rattle.rand_pcg.specs.Pcg.{pcg64}
 use Rattle.trex_vars.specs.Value.{stands_at, word_at}
-use Rattle.trex_vars.proofs.Drawing.{drawn-stands}
+use Rattle.trex_vars.proofs.DrawLemmas.{drawn-stands}
 use Rattle.trex_wire.proofs.words.draw.Goals as goal
 
 pub returns-clause-word : goal.returns-clause-word

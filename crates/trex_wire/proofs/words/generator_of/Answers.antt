@@ -1,7 +1,7 @@
 use Rattle.std.proofs.Common.{ap, ◌∙◌}
 use Rattle.rand_pcg.specs.Lcg.{increment_of, started}
 use Rattle.rand_pcg.specs.Pcg.{multiplier_128}
-use Rattle.trex_vars.proofs.Drawing.{stands-new}
+use Rattle.trex_vars.proofs.DrawLemmas.{stands-new}
 use Rattle.trex_wire.proofs.words.generator_of.Goals as goal
 
 pub returns : goal.returns

@@ -3,8 +3,8 @@ use Rattle.std.specs.Prelude.{IsSome}
 use Rattle.trex_claims.specs.Views.{IsFull}
 use Rattle.trex_claims.specs.Board.{IsPiece}
 use Rattle.trex_claims.specs.Moves.{stand_at, rested}
-use Rattle.trex_claims.proofs.Slots.{rested_what}
-use Rattle.trex_claims.proofs.Calls.{first_step, gives_back, reached_at, homed_is, homed_off, found_is}
+use Rattle.trex_claims.proofs.SlotLemmas.{rested_what}
+use Rattle.trex_claims.proofs.CallLemmas.{first_step, gives_back, reached_at, homed_is, homed_off, found_is}
 use Rattle.trex_claims.proofs.board.Board.fetch.Goals as goal
 
 pub load-requires : goal.load-requires

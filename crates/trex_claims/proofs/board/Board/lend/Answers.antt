@@ -3,8 +3,8 @@ use Rattle.atomic_table.specs.Table.{Me}
 use Rattle.trex_claims.specs.declared.view.View.{View}
 use Rattle.trex_claims.specs.Views.{IsEmpty}
 use Rattle.trex_claims.specs.Moves.{stand_at, rested, rested_if, restood, filled}
-use Rattle.trex_claims.proofs.Slots.{rested_what}
-use Rattle.trex_claims.proofs.Calls.{first_step, gives_back, reached_at, homed_is}
+use Rattle.trex_claims.proofs.SlotLemmas.{rested_what}
+use Rattle.trex_claims.proofs.CallLemmas.{first_step, gives_back, reached_at, homed_is}
 use Rattle.trex_claims.proofs.board.Board.lend.Goals as goal
 
 pub load-requires : goal.load-requires

@@ -1,5 +1,5 @@
 use Rattle.std.proofs.Common.{◌+◌, ◌<◌, arith, rules}
-use Rattle.trex_claims.proofs.Calls.{puts_taken}
+use Rattle.trex_claims.proofs.CallLemmas.{puts_taken}
 use Rattle.trex_claims.proofs.board.Board.put.Goals as goal
 
 pub fetch_add-requires : goal.fetch_add-requires

@@ -1,5 +1,5 @@
 use Rattle.std.proofs.Common.{Some}
-use Rattle.trex_claims.proofs.Calls.{sole_slot}
+use Rattle.trex_claims.proofs.CallLemmas.{sole_slot}
 use Rattle.trex_claims.proofs.board.Board.take.Goals as goal
 
 pub exchange-requires : goal.exchange-requires

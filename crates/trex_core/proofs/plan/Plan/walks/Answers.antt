@@ -2,8 +2,8 @@ use Rattle.std.proofs.Common.{◌≡◌, ◌==◌, ◌%◌, List, map, refl, sym
 use Rattle.std.specs.List.{AllByRecursion, filter}
 use Rattle.trex_merge.specs.Frames.{key_of}
 use Rattle.trex_merge.specs.Order.{AreDistinct, ordered}
-use Rattle.trex_merge.proofs.Following.{map-filter, map-ordered}
-use Rattle.trex_merge.proofs.Laws.{distinct-ordered, rising-ordered}
+use Rattle.trex_merge.proofs.FrameLemmas.{map-filter, map-ordered}
+use Rattle.trex_merge.proofs.OrderLemmas.{distinct-ordered, rising-ordered}
 use Rattle.trex_profile.specs.Chains.{chains_of}
 use Rattle.trex_sched.specs.Chain.{Chain, IsChain}
 use Rattle.trex_sched.specs.Entries.{key_of as slot_key, share as share_of_slots}

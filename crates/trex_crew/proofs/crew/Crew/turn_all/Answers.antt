@@ -1,7 +1,7 @@
 use Rattle.std.proofs.Common.{sym, subst}
 use Rattle.trex_crew.specs.Crews.{works_of}
 use Rattle.trex_crew.specs.Told.{Entered}
-use Rattle.trex_crew.proofs.Entries.{entered_first}
+use Rattle.trex_crew.proofs.EntryLemmas.{entered_first}
 use Rattle.trex_crew.proofs.crew.Crew.turn_all.Goals as goal
 use Rattle.trex_crew.proofs.crew.Crew.turn_all.Goals.{then-len-cores+then-is_in_order, else-len-cores}
 

@@ -3,7 +3,7 @@ use Rattle.trex_merge.specs.declared.key.Key.{Key}
 use Rattle.trex_merge.specs.Frames.{frame_of, key_of}
 use Rattle.trex_merge.specs.Heads.{earlier_of, least_from}
 use Rattle.trex_merge.specs.Queues.{all_waiting, needy_from}
-use Rattle.trex_merge.proofs.Feeds.{earlier_none, feed_passed, finished_served, none_waits_at, waits, waits_at}
+use Rattle.trex_merge.proofs.FeedLemmas.{earlier_none, feed_passed, finished_served, none_waits_at, waits, waits_at}
 use Rattle.trex_merge.proofs.mill.Mill.peek.Goals as goal
 use Rattle.trex_merge.proofs.mill.Mill.peek.Goals.{in-Some, in-None+else-owes}
 

@@ -1,8 +1,8 @@
 use Rattle.std.proofs.Common.{◌-◌, ◌<◌, length, map, rules}
 use Rattle.std.proofs.Math.Seq.{map-set_same}
 use Rattle.trex_merge.specs.Queues.{popped}
-use Rattle.trex_merge.proofs.Coming.{packet_is_least}
-use Rattle.trex_merge.proofs.Feeds.{feed_waits, feed_within, map-at_place, slice_get-set_other}
+use Rattle.trex_merge.proofs.QueueLemmas.{packet_is_least}
+use Rattle.trex_merge.proofs.FeedLemmas.{feed_waits, feed_within, map-at_place, slice_get-set_other}
 use Rattle.trex_merge.proofs.mill.Mill.take.Goals as goal
 
 pub offset_bounds-feeds-feed : goal.offset_bounds-feeds-feed

@@ -13,7 +13,7 @@ use Rattle.trex_profile.specs.Instruction.{instruction}
 use Rattle.trex_profile.specs.Packets.{variables, program, stamp_at}
 use Rattle.trex_profile.specs.Steps.{variables_from, steps_of, program_of}
 use Rattle.trex_profile.specs.Stream.{Stream, raw_stream}
-use Rattle.trex_profile.proofs.Steps.{unless-kept}
+use Rattle.trex_profile.proofs.OrderLemmas.{unless-kept}
 use Rattle.trex_profile.proofs.member.Member.of.Goals as goal
 
 pub returns-clause-spec : goal.returns-clause-spec

@@ -6,7 +6,7 @@ use Rattle.trex_crew.specs.Crews.{works_of}
 use Rattle.trex_merge.specs.declared.next.Next.TheVariants.{Packet}
 use Rattle.trex_merge.specs.Frames.{frame_of, key_of, sequence}
 use Rattle.trex_merge.specs.Order.{ordered}
-use Rattle.trex_merge.proofs.Coming.{packet_is_least}
+use Rattle.trex_merge.proofs.QueueLemmas.{packet_is_least}
 use Rattle.trex_run.specs.State.{IsEarly, IsShort, RunState, all_of}
 use Rattle.trex_run.specs.Ready.{IsReady, queues_of}
 use Rattle.trex_run.proofs.HeadLemmas.{coming_is}

@@ -6,7 +6,7 @@ use Rattle.trex_crew.specs.Crews.{works_of}
 use Rattle.trex_merge.specs.Frames.{key_of, sequence}
 use Rattle.trex_merge.specs.Order.{ordered}
 use Rattle.trex_merge.specs.Queues.{next_of}
-use Rattle.trex_merge.proofs.Coming.{packet_is_least}
+use Rattle.trex_merge.proofs.QueueLemmas.{packet_is_least}
 use Rattle.trex_run.specs.Capture.{tallies}
 use Rattle.trex_run.specs.Ready.{CountsNext, queues_of}
 use Rattle.trex_run.specs.Rounds.{EnteredAfter}

@@ -3,7 +3,7 @@ use Rattle.std.specs.Prelude.{IfSome}
 use Rattle.trex_vars.specs.Registers.{draw_at}
 use Rattle.trex_vars.specs.Value.{value_at, word_at}
 use Rattle.trex_vars.specs.Variable.{variable_of}
-use Rattle.trex_vars.proofs.Between.{shown-value}
+use Rattle.trex_vars.proofs.BoundsLemmas.{shown-value}
 use Rattle.trex_vars.proofs.strided.Strided.value.Goals as goal
 use Rattle.trex_vars.proofs.strided.Strided.value.Goals.{in-Some, in-None}
 

@@ -2,7 +2,7 @@ use Rattle.std.proofs.Common.{◌≡◌, ◌+◌, ap, ◌∙◌, zero-add}
 use Rattle.rand_pcg.specs.Lcg.{started, increment_of}
 use Rattle.rand_pcg.specs.Pcg.{multiplier_128}
 use Rattle.trex_vars.specs.Value.{stands_at, word_at}
-use Rattle.trex_vars.proofs.Drawing.{stands-new}
+use Rattle.trex_vars.proofs.DrawLemmas.{stands-new}
 use Rattle.trex_vars.proofs.words.Words.at.Goals as goal
 
 pub invariant_of-result : goal.invariant_of-result

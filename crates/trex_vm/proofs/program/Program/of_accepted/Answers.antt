@@ -3,7 +3,7 @@ use Rattle.trex_vars.specs.Variable.{variable_of}
 use Rattle.trex_vm.specs.declared.instr.Instr.{Instr}
 use Rattle.trex_vm.specs.Rules.{least_length}
 use Rattle.trex_vm.specs.Program.{IsProgram}
-use Rattle.trex_vm.proofs.Ends.{accepted-program, accepts-tells}
+use Rattle.trex_vm.proofs.ProgramLemmas.{accepted-program, accepts-tells}
 use Rattle.trex_vm.proofs.program.Program.of_accepted.Goals as goal
 
 pub invariant_of-result : goal.invariant_of-result

@@ -2,7 +2,7 @@
 use Rattle.std.proofs.Common.{◌≡◌, ℕ, zero, suc, ◌+◌, ◌-◌, ◌*◌, ◌%◌, ◌<◌, ◌≤◌, List, ◌∷◌, ◌++◌, length, refl, ap, ◌∙◌, arith}
 use Rattle.std.proofs.lemmas.Bool.Decides.{nat_tests}
 use Rattle.trex_sum.specs.Checksum.{sum_of, fold_of, ones_for_zero}
-use Rattle.trex_sum.proofs.SumLaws.{sum_of-append}
+use Rattle.trex_sum.proofs.SumLemmas.{sum_of-append}
 
 -- what is written into the field makes every sum fold to all ones
 pub record Completes (written : ℕ → ℕ) : Type 0 where

@@ -7,7 +7,7 @@ use mathlib.Core.Logic.{dite}
 use native.Mathlib.Decide.{ℕ_discrete}
 use Rattle.trex_claims.specs.Views.{times}
 use Rattle.trex_claims.specs.Board.{below}
-use Rattle.trex_claims.proofs.Totals.{not_here, not_yet, once_here, sure, times_append}
+use Rattle.trex_claims.proofs.TotalLemmas.{not_here, not_yet, once_here, sure, times_append}
 use Rattle.trex_crew.specs.Orders.{AreInOrder}
 
 -- a core that stands in a list stands between two parts of it

@@ -8,7 +8,7 @@ use Rattle.trex_pcap.specs.declared.record.Record.{Record}
 use Rattle.trex_pcap.specs.Following.{Begins, Follows, IsOfCapture, seen_by}
 use Rattle.trex_pcap.specs.Place.{Place}
 use Rattle.trex_pcap.specs.Reading.{begin, Holds, HoldsAfter, IsCapture}
-use Rattle.trex_pcap.proofs.Readings.{capture_once}
+use Rattle.trex_pcap.proofs.ReadingLemmas.{capture_once}
 use Rattle.trex_measure.specs.declared.fault.MeasureFault.{MeasureFault}
 use Rattle.trex_measure.specs.declared.fault.MeasureFault.TheVariants.{Read, Bad}
 use Rattle.trex_measure.specs.Measured.{OnCapture, HasFault, IfCapture, IsSound, AnswersBy, measure_fault}

@@ -12,7 +12,7 @@ use Rattle.trex_claims.specs.declared.view.View.{View}
 use Rattle.trex_claims.specs.Views.{times, IsFirst, IsEmpty, IsFull}
 use Rattle.trex_claims.specs.Board.{below, Shelved, Kept, Rule}
 use Rattle.trex_claims.specs.Moves.{vacant, stand_at, turned_by, stands_after, rested_if, rested, restood, out, FitsAs, Reached, stand_of, Homed}
-use Rattle.trex_claims.proofs.Totals.{at_place, set_loaded, set_twice}
+use Rattle.trex_claims.proofs.TotalLemmas.{at_place, set_loaded, set_twice}
 use Rattle.trex_claims.proofs.Shelves.{resting_of, untouched, of_first}
 use Rattle.trex_claims.proofs.Rests.{rests_if, each_put, stood_led, stood_kept}
 

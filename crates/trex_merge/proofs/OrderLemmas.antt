@@ -4,7 +4,7 @@ use Rattle.std.specs.List.{AllByRecursion, filter}
 use Rattle.std.proofs.lemmas.Bool.{false≢true}
 use Rattle.trex_merge.specs.declared.key.Key.{Key}
 use Rattle.trex_merge.specs.Order.{is_before, AreApart, ComesBefore, placed, ordered, EachPair, IsRising, AreDistinct, Has, HaveSame}
-use Rattle.trex_merge.proofs.Keys.{not_both, before_trans, one_first, not_before_itself}
+use Rattle.trex_merge.proofs.KeyLemmas.{not_both, before_trans, one_first, not_before_itself}
 
 -- ---- what holds of each value of a list
 

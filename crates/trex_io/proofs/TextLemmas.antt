@@ -6,7 +6,7 @@ use Rattle.std.proofs.lemmas.Grind.{flat_map-append}
 use Rattle.std.specs.List.{flat_map}
 use Rattle.std.proofs.KnownBytes.{Appends-trans}
 use Rattle.trex_io.specs.Texts.{Wrote, WrotePart, Writes}
-use Rattle.trex_io.proofs.Causes.{HasCause-after}
+use Rattle.trex_io.proofs.FaultLemmas.{HasCause-after}
 
 module _ {K : Type 0} (held : K → Option (List ℕ)) (a b c : K) (front rest : List ℕ) where
   -- a text, and then the next

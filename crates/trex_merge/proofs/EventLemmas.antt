@@ -9,8 +9,8 @@ use Rattle.trex_merge.specs.Frames.{Frame, key_of, sequence, share, shares}
 use Rattle.trex_merge.specs.Machine.{Emit, Event, IsEnded, IsMill, IsPrefixOf, MillState, Refill, emitted, happens, next_in, run, start}
 use Rattle.trex_merge.specs.Order.{AreApart, AreDistinct, BeginsNotBefore, IsRising, joined, ordered}
 use Rattle.trex_merge.specs.Queues.{Queue, all_waiting, at_place, is_none_left, popped, refilled, stem, waiting_at}
-use Rattle.trex_merge.proofs.Coming.{AllServed, more_left, packet_is_least}
-use Rattle.trex_merge.proofs.Lists.{joined_none, ordered_least, pairs-joined, rising-set}
+use Rattle.trex_merge.proofs.QueueLemmas.{AllServed, more_left, packet_is_least}
+use Rattle.trex_merge.proofs.ListLemmas.{joined_none, ordered_least, pairs-joined, rising-set}
 use Rattle.trex_merge.proofs.Parts.{shares_distinct, shares_merged, shares_rise}
 
 -- ---- packets are made

@@ -9,10 +9,10 @@ use Rattle.trex_merge.specs.Frames.{Frame, key_of, share}
 use Rattle.trex_merge.specs.Machine.{Emit, HaveShares, MillState, Refill, emitted, happens, next_in, sent_by, start}
 use Rattle.trex_merge.specs.Order.{Has, ordered}
 use Rattle.trex_merge.specs.Queues.{Queue, all_waiting, at_place, popped, refilled, stem}
-use Rattle.trex_merge.proofs.Coming.{packet_is_least}
-use Rattle.trex_merge.proofs.Events.{first_waits, stem-refilled}
-use Rattle.trex_merge.proofs.Laws.{has-filter}
-use Rattle.trex_merge.proofs.Lists.{has-append}
+use Rattle.trex_merge.proofs.QueueLemmas.{packet_is_least}
+use Rattle.trex_merge.proofs.EventLemmas.{first_waits, stem-refilled}
+use Rattle.trex_merge.proofs.OrderLemmas.{has-filter}
+use Rattle.trex_merge.proofs.ListLemmas.{has-append}
 
 -- ---- a core's queue after a change
 

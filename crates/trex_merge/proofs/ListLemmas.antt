@@ -3,8 +3,8 @@ use Rattle.std.proofs.Common.{◌≡◌, ℕ, zero, suc, ◌⊎◌, inl, inr, Li
 use Rattle.std.specs.List.{AllByRecursion, slice_get}
 use Rattle.trex_merge.specs.declared.key.Key.{Key}
 use Rattle.trex_merge.specs.Order.{AreApart, ComesBefore, ordered, EachPair, IsRising, AreDistinct, Has, HaveSame, joined, BeginsNotBefore}
-use Rattle.trex_merge.proofs.Keys.{before_trans, one_first}
-use Rattle.trex_merge.proofs.Laws.{all_at, all_from, ordered_first}
+use Rattle.trex_merge.proofs.KeyLemmas.{before_trans, one_first}
+use Rattle.trex_merge.proofs.OrderLemmas.{all_at, all_from, ordered_first}
 
 -- ---- two lists joined
 

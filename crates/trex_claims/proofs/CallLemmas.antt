@@ -8,10 +8,10 @@ use Rattle.trex_claims.specs.declared.view.View.{View}
 use Rattle.trex_claims.specs.Views.{IsFirst, IsEmpty, IsFull}
 use Rattle.trex_claims.specs.Board.{IsPiece, Rule}
 use Rattle.trex_claims.specs.Moves.{PutBack, stand_at, rested_if, rested, restood, out, FitsAs, Reached, stand_of, Homed}
-use Rattle.trex_claims.proofs.Totals.{set_twice}
+use Rattle.trex_claims.proofs.TotalLemmas.{set_twice}
 use Rattle.trex_claims.proofs.Rests.{length_after}
 use Rattle.trex_claims.proofs.Puts.{puts_back}
-use Rattle.trex_claims.proofs.Slots.{reaches, homes, rested_what}
+use Rattle.trex_claims.proofs.SlotLemmas.{reaches, homes, rested_what}
 
 pub same_core : (c : ℕ) → c + 1 - 1 ≡ c
 same_core c = omega arith
