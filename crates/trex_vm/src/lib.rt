@@ -8,8 +8,6 @@ mod laws;
 mod program;
 mod rules;
 mod run;
-#[cfg(test)]
-mod tests;
 mod write;
 
 pub use instr::{Instr, L4Kind, Operand, Part};
