@@ -12,7 +12,8 @@ use crate::layer::LayerView;
 use crate::pseudo::{addresses, pseudo_sum};
 use byteorder::{BigEndian, ByteOrder};
 use trex_layers::{
-    IPV4_LEN, LONGEST_PACKET, PROTOCOL_TCP, PROTOCOL_UDP, TAG_LEN, TCP_LEN, TYPE_IPV4, TYPE_LEN, TYPE_VLAN, UDP_LEN,
+    IPV4_LEN, LONGEST_PACKET, PROTOCOL_TCP, PROTOCOL_UDP, TAG_LEN, TCP_LEN, TYPE_IPV4, TYPE_LEN,
+    TYPE_VLAN, UDP_LEN,
 };
 use trex_sum::{ALL_ONES, fold, ones_for_zero, sum_words};
 

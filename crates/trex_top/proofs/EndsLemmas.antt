@@ -1,5 +1,5 @@
 -- What follows from the tables of the commands: a row for each status that has something to say.
-use Rattle.std.proofs.Common.{◌≡◌, ℕ, ◌⊎◌, inl, inr, ◌↔◌, true, false, List, [], ◌∷◌, Option, Some, None, Result, Ok, Err, IsErr, refl, sym, subst, ◌∙◌}
+use Rattle.std.proofs.Common.{◌≡◌, ℕ, inl, inr, ◌↔◌, true, false, List, [], ◌∷◌, Option, Some, None, Result, Ok, Err, IsErr, refl, sym, subst, ◌∙◌}
 use Rattle.trex_crew.specs.Told.{IfTold}
 use Rattle.trex_io.specs.Seen.{Seen}
 use Rattle.trex_measure.specs.Measured.{HasFault, OnCapture}

@@ -38,12 +38,12 @@ fn out_of_memory<N: Sink>(notes: &mut N) -> ExitCode
 }
 
 /// Runs the program on the process's command words and on these streams. The word before them, the program's name, is passed over.
-pub fn run_program<R: Env + AllocGlobal + Threads + Sync, I: Read + Drop, O: Write + Drop, E: Write + Drop>(
-    rt: &R,
-    stdin: I,
-    stdout: O,
-    stderr: E,
-) -> ExitCode
+pub fn run_program<
+    R: Env + AllocGlobal + Threads + Sync,
+    I: Read + Drop,
+    O: Write + Drop,
+    E: Write + Drop,
+>(rt: &R, stdin: I, stdout: O, stderr: E) -> ExitCode
     ensures { IsExitNumber (exit_status result) }
 {
     let mut notes = StdSink::new(stderr);

@@ -1,5 +1,4 @@
 -- How an analysis ends: what holds at each status. Own; the grammar of captures is pcap 2.4.
-use Rattle.std.specs.Prelude.{List}
 use Rattle.trex_measure.specs.Measured.{HasFault, OnCapture}
 use Rattle.trex_pcap.specs.declared.fault.CaptureFault.{CaptureFault}
 use Rattle.trex_report.specs.declared.line.Line.TheVariants.{BadCapture as BadCaptureLine, WriteFault}
