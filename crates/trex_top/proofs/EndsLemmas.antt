@@ -22,9 +22,9 @@ use Rattle.trex_top.specs.Ends.Help.{HelpEnds}
 use Rattle.trex_top.specs.Ends.Run.{RunEnds}
 use Rattle.trex_top.specs.Ends.Sample.{SampleEnds}
 use Rattle.trex_run.specs.Rounds.{AreRounds}
+use Rattle.trex_run.proofs.RoundsLemmas.{tell_no_rounds}
 use Rattle.trex_top.specs.Rows.{HasVerdict}
 use Rattle.trex_top.specs.Sides.{Side, GateSide, Failed, Rounds, Unentered, given}
-use Rattle.trex_top.proofs.Telling.{tell_no_rounds}
 
 -- ---- a text has one verdict, and a capture one reading
 

@@ -1,4 +1,4 @@
-use Rattle.std.proofs.Common.{◌≡◌, List, sym, ap, ◌∙◌, subst, length}
+use Rattle.std.proofs.Common.{◌≡◌, List, ap, ◌∙◌, subst}
 use Rattle.trex_io.specs.Texts.{Wrote, WrotePart}
 use Rattle.trex_core.specs.Plan.{PlanOf}
 use Rattle.trex_merge.specs.Frames.{Frame}
