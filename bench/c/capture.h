@@ -1,7 +1,7 @@
-// Writes a capture (pcap 2.4, nanoseconds, lowest byte first) to standard output through a buffer of 64 KiB. The machine's own numbers
-// have their lowest byte first too. The order of the calls: begin_capture, a put_record for each packet, end_capture.
+// Writes a capture (pcap 2.4, nanoseconds, lowest byte first) to standard output through a buffer of 64 KiB, on a machine whose numbers
+// have their lowest byte first. The order of the calls: begin_capture, put_record for each packet, flush.
+#include <inttypes.h>
 #include <stddef.h>
-#include <stdint.h>
 #include <stdio.h>
 #include <stdlib.h>
 #include <string.h>
@@ -12,7 +12,7 @@ enum { PIECE = 65536 };
 static uint8_t piece[PIECE];
 static size_t filled;
 
-static void end_capture(void) {
+static void flush(void) {
     size_t done = 0;
     while (done < filled) {
         ssize_t count = write(STDOUT_FILENO, piece + done, filled - done);
@@ -35,7 +35,7 @@ static void begin_capture(void) {
 static inline uint8_t *put_record(uint64_t time, const uint8_t *packet, size_t length) {
     const uint32_t header[4] = {(uint32_t)(time / 1000000000), (uint32_t)(time % 1000000000), (uint32_t)length, (uint32_t)length};
     if (PIECE - filled < sizeof header + length)
-        end_capture();
+        flush();
     uint8_t *record = piece + filled;
     filled += sizeof header + length;
     memcpy(record, header, sizeof header);

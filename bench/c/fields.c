@@ -75,8 +75,8 @@ int main(int argc, char **argv) {
         fill(packet, address, (uint16_t)(FIRST_PORT + next_word() % PORTS));
         address = address == LAST_ADDRESS ? FIRST_ADDRESS : address + 1;
     }
-    end_capture();
-    unsigned long long bytes = packets * LENGTH;
-    fprintf(stderr, "stream 1 packets %llu bytes %llu\n", (unsigned long long)packets, bytes);
-    fprintf(stderr, "total packets %llu bytes %llu\n", (unsigned long long)packets, bytes);
+    flush();
+    uint64_t bytes = packets * LENGTH;
+    fprintf(stderr, "stream 1 packets %" PRIu64 " bytes %" PRIu64 "\n", packets, bytes);
+    fprintf(stderr, "total packets %" PRIu64 " bytes %" PRIu64 "\n", packets, bytes);
 }

@@ -1,7 +1,7 @@
 // Reads a capture from standard input in pieces of 64 KiB and prints the lines of `trex analyze`: the counts of each flow, and those of all
 // records. A capture with a fault ends with exit status 1.
+#include <inttypes.h>
 #include <stdbool.h>
-#include <stdint.h>
 #include <stdio.h>
 #include <stdlib.h>
 #include <string.h>
@@ -191,12 +191,12 @@ static void print_wide(unsigned __int128 number) {
 }
 
 static void print_flow(unsigned name, const struct flow *flow) {
-    unsigned long long distinct = flow->received - flow->duplicates;
-    unsigned long long lost = (unsigned long long)greatest_number(flow) + 1 - distinct;
-    unsigned long long least = flow->received == flow->early ? 0 : flow->least;
-    printf("flow %u received %llu duplicates %llu lost %llu reordered %llu early %llu least %llu greatest %llu sum ", name,
-           (unsigned long long)flow->received, (unsigned long long)flow->duplicates, lost, (unsigned long long)flow->reordered,
-           (unsigned long long)flow->early, least, (unsigned long long)flow->greatest);
+    uint64_t distinct = flow->received - flow->duplicates;
+    uint64_t lost = (uint64_t)greatest_number(flow) + 1 - distinct;
+    uint64_t least = flow->received == flow->early ? 0 : flow->least;
+    printf("flow %u received %" PRIu64 " duplicates %" PRIu64 " lost %" PRIu64 " reordered %" PRIu64 " early %" PRIu64, name,
+           flow->received, flow->duplicates, lost, flow->reordered, flow->early);
+    printf(" least %" PRIu64 " greatest %" PRIu64 " sum ", least, flow->greatest);
     print_wide(flow->sum);
     putchar('\n');
 }
@@ -208,6 +208,5 @@ int main(void) {
     for (unsigned name = 0; name < 65536; name++)
         if (flows[name] != NULL)
             print_flow(name, flows[name]);
-    printf("records %llu bytes %llu stamped %llu\n", (unsigned long long)records, (unsigned long long)captured_bytes,
-           (unsigned long long)stamped);
+    printf("records %" PRIu64 " bytes %" PRIu64 " stamped %" PRIu64 "\n", records, captured_bytes, stamped);
 }

@@ -20,12 +20,8 @@ static uint64_t heap[MOST_STREAMS];
 // Puts a key in the place of the least one.
 static void replace_least(size_t count, uint64_t key) {
     size_t hole = 0;
-    for (;;) {
-        size_t child = 2 * hole + 1;
-        if (child >= count)
-            break;
-        if (child + 1 < count && heap[child + 1] < heap[child])
-            child++;
+    for (size_t child = 1; child < count; child = 2 * hole + 1) {
+        child += child + 1 < count && heap[child + 1] < heap[child];
         if (key < heap[child])
             break;
         heap[hole] = heap[child];
@@ -48,10 +44,10 @@ static void report(size_t count, uint64_t packets) {
     static char lines[PIECE];
     setvbuf(stderr, lines, _IOFBF, sizeof lines);
     for (size_t i = 0; i < count; i++) {
-        unsigned long long sent = streams[i].packets;
-        fprintf(stderr, "stream %zu packets %llu bytes %llu\n", i + 1, sent, sent * LENGTH);
+        uint64_t sent = streams[i].packets;
+        fprintf(stderr, "stream %zu packets %" PRIu64 " bytes %" PRIu64 "\n", i + 1, sent, sent * LENGTH);
     }
-    fprintf(stderr, "total packets %llu bytes %llu\n", (unsigned long long)packets, (unsigned long long)packets * LENGTH);
+    fprintf(stderr, "total packets %" PRIu64 " bytes %" PRIu64 "\n", packets, packets * LENGTH);
 }
 
 int main(int argc, char **argv) {
@@ -73,6 +69,6 @@ int main(int argc, char **argv) {
         step(stream);
         replace_least(count, stream->time * MOST_STREAMS + first);
     }
-    end_capture();
+    flush();
     report(count, packets);
 }
