@@ -18,8 +18,8 @@ use Rattle.trex_vm.specs.Rules.{least_length, room_of, is_trim, trim_wrong, writ
 use Rattle.trex_vm.proofs.ProgramLemmas.{AreBetween, trimmed-between}
 use Rattle.trex_profile.specs.declared.rule.Rule.{Rule}
 use Rattle.trex_profile.specs.declared.rule.Rule.TheVariants.{TwoTrims, TrimRange, NoRoomForStamp, WriteRoom, BadFix, WriteOnShape}
-use Rattle.trex_profile.specs.declared.step.Step.{Step}
-use Rattle.trex_profile.specs.declared.step.Step.TheVariants.{Makes, Does, MissesField, FixesHeader, FixesSegment}
+use Rattle.trex_profile.specs.declared.instructions.steps.Step.{Step}
+use Rattle.trex_profile.specs.declared.instructions.steps.Step.TheVariants.{Makes, Does, MissesField, FixesHeader, FixesSegment}
 use Rattle.trex_profile.specs.InstrRules.{does, twice_rule, trim_rule, field_rule, room_rule, fix_wrong, fix_rule, shape_rule, header_wrong, length_rules, place_rules}
 use Rattle.trex_profile.specs.Order.{first, first_each}
 use Rattle.trex_profile.specs.Refusal.{rule, rule_there}

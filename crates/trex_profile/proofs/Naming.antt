@@ -7,7 +7,7 @@ use Rattle.trex_vars.specs.declared.spec.VarSpec.{VarSpec}
 use Rattle.trex_vars.specs.Check.{fault_of}
 use Rattle.trex_vars.specs.Variable.{Variable, variable_of}
 use Rattle.trex_vm.specs.Program.{AreSound}
-use Rattle.trex_profile.specs.declared.given.GivenName.{GivenName}
+use Rattle.trex_profile.specs.declared.instructions.names.GivenName.{GivenName}
 use Rattle.trex_profile.specs.declared.raw.RawInstr.{RawInstr}
 use Rattle.trex_profile.specs.Given.{Given, given_of, given_by, givens, is_given, next_var, is_variable, variable_name, is_empty_name}
 use Rattle.trex_profile.specs.InstrRules.{name_rule}

@@ -11,8 +11,8 @@ use Rattle.trex_vm.specs.declared.instr.Operand.{Operand}
 use Rattle.trex_vm.specs.Program.{TakesFrom, IsFormed, AreOperandsOf}
 use Rattle.trex_vm.specs.declared.instr.L4Kind.TheVariants.{Tcp, Udp}
 use Rattle.trex_vm.specs.declared.instr.Instr.TheVariants.{Write as WriteInstr, WriteMask as WriteMaskInstr, Trim as TrimInstr}
-use Rattle.trex_profile.specs.declared.step.Step.{Step}
-use Rattle.trex_profile.specs.declared.step.Step.TheVariants.{Makes, Does, FixesHeader, FixesSegment}
+use Rattle.trex_profile.specs.declared.instructions.steps.Step.{Step}
+use Rattle.trex_profile.specs.declared.instructions.steps.Step.TheVariants.{Makes, Does, FixesHeader, FixesSegment}
 use Rattle.trex_profile.specs.Given.{Given, givens, has_name, operand_of}
 use Rattle.trex_profile.specs.Instruction.{Instruction, FlowVar, ListVar, RandLimit, Tuple, Write, WriteMask, FixIpv4, FixHw, Trim, IsRawInstr}
 use Rattle.trex_profile.specs.Steps.{variables_from, byte_at, write_at, fixes, step, steps_of, instrs_of, program_of}

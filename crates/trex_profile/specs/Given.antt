@@ -4,7 +4,7 @@ use Rattle.std.specs.List.{list_any}
 use Rattle.trex_vm.specs.declared.instr.Part.{Part}
 use Rattle.trex_vm.specs.declared.instr.Part.TheVariants.{Whole, Ip, Port}
 use Rattle.trex_vm.specs.declared.instr.Operand.{Operand}
-use Rattle.trex_profile.specs.declared.given.GivenName.{GivenName}
+use Rattle.trex_profile.specs.declared.instructions.names.GivenName.{GivenName}
 use Rattle.trex_profile.specs.Instruction.{Instruction, FlowVar, ListVar, RandLimit, Tuple, Write, WriteMask, FixIpv4, FixHw, Trim}
 
 -- a name, and the variable or the part of one that it stands for

@@ -1,12 +1,14 @@
+// An admitted stream, and what its packets are made of.
+
 ghost use Rattle.std.specs.Prelude.{◌≡◌, ◌≤◌, ◌<◌, length, vec_len, Some};
 ghost use Rattle.trex_layers.specs.declared.sizes.TheConstants.{LONGEST_PACKET, SHORTEST_PACKET};
 ghost use Rattle.trex_sched.specs.Times.{period_of};
 ghost use Rattle.trex_profile.specs.Rules.{numerator_of};
 
 use crate::fault::StreamFault;
-use crate::parts::{parts_of, program_for};
+use crate::instructions::program::{parts_of, program_for};
 use crate::raw::{RawInstr, RawRate, RawStream};
-use crate::times::period_of;
+use crate::rules::times::period_of;
 use std::alloc::Global;
 use trex_layers::parse;
 use trex_sched::{Leg, Mode, Period};

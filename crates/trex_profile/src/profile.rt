@@ -1,6 +1,8 @@
-use crate::chains::chains_of;
-use crate::cross::Following;
+// An admitted profile: its streams and their chains.
+
+use crate::chains::visits::chains_of;
 use crate::member::{Member, StreamSpec};
+use crate::rules::cross::Following;
 use std::alloc::Global;
 use std::marker::Model;
 use trex_io::Memory;

@@ -1,3 +1,5 @@
+// What a profile says before its values are looked at.
+
 use crate::name::Name;
 use trex_sched::Mode;
 use trex_vars::Op;
