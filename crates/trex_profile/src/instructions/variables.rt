@@ -1,6 +1,7 @@
 // The variables of a stream.
 
 ghost use Rattle.std.specs.Prelude.{◌≡◌, ◌≤◌, ◌++◌, length, map, option_map, IfOk, IfSome, None};
+ghost use Rattle.std.specs.List.{filter_map};
 ghost use Rattle.std.specs.Option.{option_to_list};
 ghost use Rattle.trex_vars.specs.Check.{fault_of};
 ghost use Rattle.trex_vars.specs.Variable.{variable_of};
@@ -9,7 +10,7 @@ ghost use Rattle.trex_profile.specs.Answer.{Gives};
 ghost use Rattle.trex_profile.specs.InstrRules.{range_rule};
 ghost use Rattle.trex_profile.specs.Instruction.{instruction};
 ghost use Rattle.trex_profile.specs.Order.{first_each, unless};
-ghost use Rattle.trex_profile.specs.Steps.{variable_at, variables_from};
+ghost use Rattle.trex_profile.specs.Steps.{restart_of, variable_at, variables_from};
 
 use crate::fault::StreamFault;
 use crate::raw::RawInstr;
@@ -18,7 +19,7 @@ use std::alloc::Global;
 use trex_io::Memory;
 use trex_vars::{VarSpec, check};
 
-/// The variable of the instruction at a place.
+/// The variable of the instruction at a place, where it makes one.
 fn variable_at(
     alloc: Global,
     seed: u64,
@@ -143,4 +144,30 @@ pub(crate) fn variables_of(
         }
     }
     Ok(vars)
+}
+
+/// Whether the variable of an instruction restarts at each visit, where it makes one.
+fn restart_of(instr: &RawInstr) -> Option<bool>
+    ensures { result ≡ restart_of (instruction instr.now) }
+{
+    match instr {
+        RawInstr::FlowVar { restart, .. }
+        | RawInstr::ListVar { restart, .. }
+        | RawInstr::RandLimit { restart, .. }
+        | RawInstr::Tuple { restart, .. } => Some(*restart),
+        _ => None,
+    }
+}
+
+/// Of each variable of instructions, in their order, whether it restarts at each visit.
+pub(crate) fn restarts_of(alloc: Global, instrs: &[RawInstr]) -> Result<Vec<bool>, Memory>
+    ensures { IfOk result (λ restarts. restarts.items ≡ filter_map restart_of (map instruction instrs.now)) }
+{
+    let mut restarts = Vec::new(alloc);
+    for instr in instrs {
+        if let Some(restart) = restart_of(instr) {
+            restarts.push(restart)?;
+        }
+    }
+    Ok(restarts)
 }
