@@ -1,4 +1,4 @@
-// The latency headers, in two versions, at the end of a packet: which flow it belongs to, where in it, and when it was due.
+//! The latency headers, in two versions, at the end of a packet: which flow it belongs to, where in it, and when it was due.
 #![tactic(auto)]
 
 mod header;

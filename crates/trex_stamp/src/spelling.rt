@@ -69,12 +69,19 @@ fn marks(version: Version) -> &'static [u8]
     }
 }
 
+/// The last bytes of a packet, so many of them.
+fn last_bytes(count: usize, packet: &[u8]) -> &[u8]
+    requires { count ≤ length packet.now }
+    ensures { result.now ≡ last_bytes count packet.now }
+{
+    &packet[packet.len() - count..]
+}
+
 /// Whether the packet ends in a header of the version.
 fn ends_in(version: Version, packet: &[u8]) -> bool
     ensures { result ≡ ends_in version packet.now }
 {
-    let size = version.size();
-    packet.len() >= size && packet[packet.len() - size..].starts_with(marks(version))
+    packet.len() >= version.size() && last_bytes(version.size(), packet).starts_with(marks(version))
 }
 
 /// The stamp that a header spells.
@@ -103,7 +110,7 @@ fn last_stamp(version: Version, packet: &[u8]) -> Stamp
     requires { size_of version ≤ length packet.now }
     ensures { result ≡ last_stamp version packet.now }
 {
-    read_header(version, &packet[packet.len() - version.size()..])
+    read_header(version, last_bytes(version.size(), packet))
 }
 
 /// The latency header at the packet's end. Version 1 is looked for first: there are at least 16 bytes, and the last 16 begin with 0xab and 1.
