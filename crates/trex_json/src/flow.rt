@@ -4,7 +4,7 @@ ghost use Rattle.std.specs.Prelude.{◌≡◌, ◌-◌, ◌^◌, None, Some, IfS
 ghost use Rattle.std.specs.Option.{ForSome};
 ghost use Rattle.serde_json.specs.View.{view};
 ghost use Rattle.trex_stamp.specs.Stamp.{flow_size};
-ghost use Rattle.trex_profile.specs.Stream.{IsFlow};
+ghost use Rattle.trex_profile.specs.Flow.{IsFlow};
 ghost use Rattle.trex_json.specs.Shape.{flow, flow_names_wrong, flow_of, flow_wrong};
 
 use crate::kinds::an_object;
