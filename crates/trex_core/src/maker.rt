@@ -68,7 +68,7 @@ impl<'p> Maker<'p> {
     }
 }
 
-// the registers of each stream, by its position
+/// The registers of each stream, by its position.
 fn registers_of<'p>(
     alloc: Global,
     plan: &'p Plan<'p>,
@@ -88,7 +88,7 @@ fn registers_of<'p>(
     Ok(all)
 }
 
-// makes a packet with the registers of its stream
+/// Makes a packet with the registers of its stream.
 fn make_packet(
     plan: &Plan<'_>,
     registers: &mut [Registers<'_>],
@@ -107,7 +107,7 @@ fn make_packet(
     write_packet(plan, slot, registers[position].values(), scratch)
 }
 
-// makes a packet of the values of its stream's variables
+/// Makes a packet of the values of its stream's variables.
 fn write_packet(plan: &Plan<'_>, slot: &Slot, values: &[VarValue], scratch: &mut [u8]) -> usize
     requires slot { IsSlotOf plan.now.profile slot.now }
     requires values { IsSomeAnd (slice_get plan.now.profile slot.now.stream)
@@ -121,7 +121,7 @@ fn write_packet(plan: &Plan<'_>, slot: &Slot, values: &[VarValue], scratch: &mut
     run_plain(&spec.program, &spec.template, values, stamp, scratch)
 }
 
-// the latency header of a packet, where its stream has a flow
+/// The latency header of a packet, if its stream has a flow.
 fn stamp_of(flow: Option<u16>, number: u64, time: u64) -> Option<Stamp>
     ensures { result ≡ option_map (λ flow. record { flow = flow; sequence = number % 2 ^ 32; time = time }) flow }
 {
