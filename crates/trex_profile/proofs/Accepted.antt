@@ -5,21 +5,18 @@ use Rattle.std.proofs.Math.Seq.{take-append_seam}
 use Rattle.std.proofs.lemmas.Bool.{or_parts}
 use Rattle.std.proofs.lemmas.Bool.Decides.{nat_tests}
 use Rattle.std.proofs.lemmas.List.{length-append}
-use Rattle.std.proofs.lemmas.List.Elements.{recursion_from_All}
 use Rattle.std.proofs.lemmas.List.Folds.{list_any-append}
 use Rattle.std.proofs.lemmas.List.Sums.{sum_by-append, sum_by-cons}
 use Rattle.trex_stamp.specs.declared.header.TheConstants.{SHORTEST_STAMPED}
-use Rattle.trex_vars.specs.Variable.{Variable, Tuple}
-use Rattle.trex_vars.specs.Value.{value_at}
-use Rattle.trex_vars.proofs.BoundsLemmas.{value-between}
+use Rattle.trex_vars.specs.Variable.{Variable}
 use Rattle.trex_vm.specs.declared.instr.Instr.{Instr}
 use Rattle.trex_vm.specs.Program.{TakesFrom, AreSound}
 use Rattle.trex_vm.specs.Rules.{least_length, room_of, is_trim, trim_wrong, writes_past, misses_header, overwrites_header_kind, accepts}
-use Rattle.trex_vm.proofs.ProgramLemmas.{AreBetween, trimmed-between}
+use Rattle.trex_vm.proofs.ProgramLemmas.{least_length-within}
 use Rattle.trex_profile.specs.declared.rule.Rule.{Rule}
 use Rattle.trex_profile.specs.declared.rule.Rule.TheVariants.{TwoTrims, TrimRange, NoRoomForStamp, WriteRoom, BadFix, WriteOnShape}
-use Rattle.trex_profile.specs.declared.step.Step.{Step}
-use Rattle.trex_profile.specs.declared.step.Step.TheVariants.{Makes, Does, MissesField, FixesHeader, FixesSegment}
+use Rattle.trex_profile.specs.declared.instructions.steps.Step.{Step}
+use Rattle.trex_profile.specs.declared.instructions.steps.Step.TheVariants.{Makes, Does, MissesField, FixesHeader, FixesSegment}
 use Rattle.trex_profile.specs.InstrRules.{does, twice_rule, trim_rule, field_rule, room_rule, fix_wrong, fix_rule, shape_rule, header_wrong, length_rules, place_rules}
 use Rattle.trex_profile.specs.Order.{first, first_each}
 use Rattle.trex_profile.specs.Refusal.{rule, rule_there}
@@ -164,10 +161,8 @@ accepted vars template stamped steps lengths places =
 pub room-within : (vars : List Variable) (whole : ℕ) (stamped : Bool) (steps : List Step) → AreSound vars → All (TakesFrom (length vars)) (program_of steps)
     → length_rules vars whole stamped steps ≡ None → room_of (least_length vars (program_of steps) whole) stamped ≤ whole
 room-within vars whole stamped steps sound operands none =
-    let between : AreBetween (λ v. value_at v 0) vars = λ k d below. value-between _ 0 (sound k d below) in
-    let range = trimmed-between (λ v. value_at v 0) vars (Tuple 0 0 0 0 0) (program_of steps) whole between (recursion_from_All (TakesFrom (length vars)) (program_of steps) operands)
-    (cuts-none vars whole stamped steps none) in
-    by_test stamped (least_length vars (program_of steps) whole) (omega (arith, range.0, range.1))
+    by_test stamped (least_length vars (program_of steps) whole)
+    (least_length-within vars (program_of steps) whole sound operands (cuts-none vars whole stamped steps none))
   where
     by_test : (test : Bool) (shortest : ℕ) → shortest ≤ whole → room_of shortest test ≤ whole
     by_test true shortest small = omega arith

@@ -7,6 +7,7 @@ mod Rounds
 mod Walkable
 mod Naming
 mod Operands
+mod Restarts
 mod Accepted
 pub mod RuleLemmas
 mod FlowNumbers

@@ -10,8 +10,8 @@ use Rattle.trex_vm.specs.Fix.{header_length}
 use Rattle.trex_vm.specs.Rules.{least_length, room_of, is_trim, trim_wrong, writes_past, misses_header, overwrites_header_kind}
 use Rattle.trex_profile.specs.declared.refusal.Breach.{Breach}
 use Rattle.trex_profile.specs.declared.rule.Rule.TheVariants.{VarName, VarRange, UnknownVariable, TwoTrims, TrimRange, NoRoomForStamp, BadField, WriteRoom, BadFix, WriteOnShape}
-use Rattle.trex_profile.specs.declared.step.Step.{Step}
-use Rattle.trex_profile.specs.declared.step.Step.TheVariants.{Makes, Does, MissesField, FixesHeader, FixesSegment}
+use Rattle.trex_profile.specs.declared.instructions.steps.Step.{Step}
+use Rattle.trex_profile.specs.declared.instructions.steps.Step.TheVariants.{Makes, Does, MissesField, FixesHeader, FixesSegment}
 use Rattle.trex_profile.specs.Given.{Given, variable_name, is_empty_name, given_by, givens, is_given}
 use Rattle.trex_profile.specs.Instruction.{Instruction}
 use Rattle.trex_profile.specs.Order.{first, first_each}

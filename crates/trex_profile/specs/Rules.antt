@@ -11,7 +11,7 @@ use Rattle.trex_profile.specs.declared.raw.RateKind.TheVariants.{Pps, BpsL1, Bps
 use Rattle.trex_profile.specs.declared.rule.Rule.TheVariants.{BadLength, RateZero, RateTooHigh, CountZero, NoRoomForStamp}
 use Rattle.trex_profile.specs.declared.refusal.Refusal.{Refusal}
 use Rattle.trex_profile.specs.declared.refusal.Breach.{Breach}
-use Rattle.trex_profile.specs.declared.step.Step.{Step}
+use Rattle.trex_profile.specs.declared.instructions.steps.Step.{Step}
 use Rattle.trex_profile.specs.Given.{givens}
 use Rattle.trex_profile.specs.InstrRules.{name_rule, range_rule, unknown_rule, twice_rule, trim_rule, field_rule, room_rule, fix_rule, shape_rule, names_rules, does_rules}
 use Rattle.trex_profile.specs.Order.{first, first_each}

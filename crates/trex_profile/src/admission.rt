@@ -1,3 +1,5 @@
+// Which profiles are admitted: each stream is looked at by itself, then all of them together.
+
 ghost use Rattle.std.specs.Prelude.{◌≡◌, map, All, length, ◌≤◌, IfOk};
 ghost use Rattle.trex_profile.specs.Admission.{IsRawProfile, Admits, admitted};
 ghost use Rattle.trex_profile.specs.Member.{member_stream, IsMember};
@@ -5,11 +7,11 @@ ghost use Rattle.trex_profile.specs.Order.{first_each, unless};
 ghost use Rattle.trex_profile.specs.Rules.{value_refusal};
 ghost use Rattle.trex_profile.specs.Stream.{IsRawStream, raw_stream};
 
-use crate::cross::follow;
 use crate::member::Member;
 use crate::profile::Profile;
 use crate::raw::{RawProfile, RawStream};
 use crate::refusal::Refusal;
+use crate::rules::cross::follow;
 use std::alloc::{AllocFailed, Global};
 use trex_io::Memory;
 

@@ -1,3 +1,5 @@
+// Why a stream is not taken.
+
 ghost use Rattle.std.specs.Prelude.{◌≡◌};
 
 use crate::admission::AdmitFault;

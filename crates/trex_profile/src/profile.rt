@@ -1,6 +1,8 @@
-use crate::chains::chains_of;
-use crate::cross::Following;
+// An admitted profile: its streams and their chains.
+
+use crate::chains::visits::chains_of;
 use crate::member::{Member, StreamSpec};
+use crate::rules::cross::Following;
 use std::alloc::Global;
 use std::marker::Model;
 use trex_io::Memory;
@@ -69,7 +71,7 @@ impl Profile {
         ensures value { result ≡ length self.now }
         // A profile keeps the rules, and no packet is longer than the longest.
         ensures kept { refusal_of self.now ≡ None }
-        ensures short { AllByRecursion (λ s. (number time : ℕ) → length (packet_of s number time) ≤ LONGEST_PACKET) self.now }
+        ensures short { AllByRecursion (λ s. (number place time : ℕ) → length (packet_of s number place time) ≤ LONGEST_PACKET) self.now }
         // Each packet of a stream that has a flow ends in its latency header.
         ensures stamped { AllByRecursion EndsInStamp self.now }
         ensures flows { AllByRecursion (λ s. IfSome s.flow (λ flow. flow < 2 ^ 16)) self.now }

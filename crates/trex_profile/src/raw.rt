@@ -1,3 +1,5 @@
+// What a profile says before its values are looked at.
+
 use crate::name::Name;
 use trex_sched::Mode;
 use trex_vars::Op;
@@ -56,7 +58,8 @@ pub enum RawPlace {
     Named(Name),
 }
 
-/// What one instruction says, each default filled in. Sizes and casts are numbers of bytes: 1, 2, 4 or 8.
+/// What one instruction says, each default filled in. Sizes and casts are numbers of bytes: 1, 2, 4 or 8. A variable that restarts counts
+/// within a run of its stream, another one over all of its visits.
 #[derive(Debug, Drop)]
 pub enum RawInstr {
     /// A counter from `min` to `max` that begins at `init`, or random numbers of that range.
@@ -68,6 +71,7 @@ pub enum RawInstr {
         min: u64,
         max: u64,
         step: u64,
+        restart: bool,
     },
     /// One of these values after another, or random ones of them.
     ListVar {
@@ -76,6 +80,7 @@ pub enum RawInstr {
         op: Op,
         step: u64,
         values: Vec<u64>,
+        restart: bool,
     },
     /// So many random numbers from `min` to `max`, over and over.
     RandLimit {
@@ -85,6 +90,7 @@ pub enum RawInstr {
         max: u64,
         limit: u64,
         seed: u64,
+        restart: bool,
     },
     /// Pairs of an IPv4 address and a port, over and over: so many, or all where the limit is 0. It gives two names, that of the
     /// address with `.ip` after its own and that of the port with `.port`.
@@ -95,6 +101,7 @@ pub enum RawInstr {
         port_min: u16,
         port_max: u16,
         limit: u32,
+        restart: bool,
     },
     /// Writes a variable and a number added to it.
     Write {

@@ -1,12 +1,16 @@
 -- The ends between which the numbers of operands lie, and what an accepted program has.
-use Rattle.std.proofs.Common.{◌≡◌, ℕ, ◌<◌, ◌≤◌, List, [], ◌∷◌, length, get_or, map, refl, sym, ap, subst, ◌∙◌, arith, Option, Some, None, IfSome, Bool, true, false, not, ◌&&◌, nat_le, nat_lt, All, IsTrue}
+use Rattle.std.proofs.Common.{◌≡◌, ℕ, zero, suc, ◌<◌, ◌≤◌, List, [], ◌∷◌, length, get_or, map, refl, sym, ap, subst, ◌∙◌, arith, Option, Some, None, IfSome, Bool, true, false, not, ◌&&◌, nat_le, nat_lt, All, IsTrue}
 use Rattle.std.proofs.lemmas.Bool.{and_parts, or_parts, not-true, leb-true, ltb-false}
 use Rattle.std.proofs.lemmas.List.{get_or-map, length-map}
+use Rattle.std.proofs.lemmas.List.Elements.{recursion_from_All}
 use Rattle.std.specs.List.{AllByRecursion, list_any, count_by}
 use Rattle.std.specs.Option.{option_map_or}
 use Rattle.trex_layers.specs.declared.sizes.TheConstants.{LONGEST_PACKET, SHORTEST_PACKET}
 use Rattle.trex_stamp.specs.declared.header.TheConstants.{SHORTEST_STAMPED}
-use Rattle.trex_vars.specs.Variable.{Variable, variable_of}
+use Rattle.trex_vars.specs.Variable.{Variable, Tuple, variable_of}
+use Rattle.trex_vars.specs.Check.{fault_of}
+use Rattle.trex_vars.specs.Value.{value_at}
+use Rattle.trex_vars.proofs.BoundsLemmas.{value-between}
 use Rattle.trex_vars.specs.Bounds.{least, greatest, IsBetween}
 use Rattle.trex_vars.specs.declared.spec.VarSpec.{VarSpec}
 use Rattle.trex_vars.specs.declared.value.VarValue.{VarValue}
@@ -20,7 +24,7 @@ use Rattle.trex_vm.specs.Effect.{trim_of}
 use Rattle.trex_vm.specs.Write.{part_of, number_in}
 use Rattle.trex_vm.specs.Packet.{trimmed}
 use Rattle.trex_vm.specs.Rules.{least_length, room_of, is_trim, cuts_wrong, trim_wrong, writes_past, misses_header, overwrites_header_kind, accepts}
-use Rattle.trex_vm.specs.Program.{IsFormed, IsProgram, TakesFrom, program_view}
+use Rattle.trex_vm.specs.Program.{AreSound, AreWithin, IsFormed, IsProgram, TakesFrom, program_view}
 
 -- the number that an operand takes from values that a function gives
 pub number_in-map : (f : Variable → VarValue) (vars : List Variable) (from : Operand) (d : Variable) → from.var < length vars
@@ -44,17 +48,32 @@ part-between Ip (Pair a x) (Pair b y) (Pair c z) between = between.0
 part-between Port (Pair a x) (Pair b y) (Pair c z) between = between.1
 part-between kind low value high between = absurd between
 
--- a function gives each of the variables a value between its ends
-abbrev pub AreBetween : (Variable → VarValue) → List Variable → Type 0
-AreBetween f vars = All (λ v. IsBetween (least v) (f v) (greatest v)) vars
+-- there is a value for each variable
+pub within-long : (vars : List Variable) (values : List VarValue) → AreWithin vars values → length values ≡ length vars
+within-long [] [] within = refl
+within-long [] (x ∷ values) within = absurd within
+within-long (v ∷ vars) [] within = absurd within
+within-long (v ∷ vars) (x ∷ values) within = ap suc (within-long vars values within.1)
 
-number-between : (f : Variable → VarValue) (vars : List Variable) (from : Operand) (d : Variable) → AreBetween f vars → from.var < length vars
-    → (number_in (map least vars) from ≤ number_in (map f vars) from) × (number_in (map f vars) from ≤ number_in (map greatest vars) from)
-number-between f vars from d between below =
+-- the value at a place lies between the ends of the variable there
+within-at : (vars : List Variable) (values : List VarValue) (k : ℕ) (d : Variable) → AreWithin vars values → k < length vars
+    → IsBetween (least (get_or vars k d)) (get_or values k (One 0)) (greatest (get_or vars k d))
+within-at [] values k d within below = absurd (omega arith)
+within-at (v ∷ vars) [] k d within below = absurd within
+within-at (v ∷ vars) (x ∷ values) zero d within below = within.0
+within-at (v ∷ vars) (x ∷ values) (suc k) d within below = within-at vars values k d within.1 (omega arith)
+
+-- the values of variables without a fault at one packet lie between their ends
+pub values-within : (n : ℕ) (vars : List Variable) → AllByRecursion (λ v. fault_of v ≡ None) vars → AreWithin vars (map (λ v. value_at v n) vars)
+values-within n [] sound = tt
+values-within n (v ∷ vars) sound = (value-between v n sound.0, values-within n vars sound.1)
+
+number-between : (vars : List Variable) (values : List VarValue) (from : Operand) (d : Variable) → AreWithin vars values → from.var < length vars
+    → (number_in (map least vars) from ≤ number_in values from) × (number_in values from ≤ number_in (map greatest vars) from)
+number-between vars values from d within below =
     let v = get_or vars from.var d in
-    let both = part-between from.part (least v) (f v) (greatest v) (between from.var d below) in
+    let both = part-between from.part (least v) (get_or values from.var (One 0)) (greatest v) (within-at vars values from.var d within below) in
     let low = number_in-map least vars from d below in
-    let here = number_in-map f vars from d below in
     let high = number_in-map greatest vars from d below in
     (omega (arith, both.0), omega (arith, both.1))
 
@@ -74,23 +93,31 @@ trim-takes count (WriteMask from at cast mask shift add big) other is takes = ab
 trim-takes count i other is takes = let Takes : Option Operand → Type 0 = λ o. IfSome o (λ from. from.var < count) in subst Takes is takes
 
 -- the packet's length lies from the least packet length to the template's length
-pub trimmed-between : (f : Variable → VarValue) (vars : List Variable) (d : Variable) (instrs : List Instr) (whole : ℕ) → AreBetween f vars
+pub trimmed-between : (vars : List Variable) (values : List VarValue) (d : Variable) (instrs : List Instr) (whole : ℕ) → AreWithin vars values
     → AllByRecursion (TakesFrom (length vars)) instrs → list_any (trim_wrong vars whole) instrs ≡ false
-    → (least_length vars instrs whole ≤ trimmed (map f vars) instrs whole) × (trimmed (map f vars) instrs whole ≤ whole)
-trimmed-between f vars d [] whole between operands fine = (omega arith, omega arith)
-trimmed-between f vars d (i ∷ rest) whole between operands fine =
+    → (least_length vars instrs whole ≤ trimmed values instrs whole) × (trimmed values instrs whole ≤ whole)
+trimmed-between vars values d [] whole within operands fine = (omega arith, omega arith)
+trimmed-between vars values d (i ∷ rest) whole within operands fine =
     let cut = or_parts (trim_wrong vars whole i) (list_any (trim_wrong vars whole) rest) fine in
-    by_trim (trim_of i) (λ from is. trim-takes (length vars) i from is operands.0) cut.0 (trimmed-between f vars d rest whole between operands.1 cut.1)
+    by_trim (trim_of i) (λ from is. trim-takes (length vars) i from is operands.0) cut.0 (trimmed-between vars values d rest whole within operands.1 cut.1)
   where
     by_trim : (trim : Option Operand) → ((from : Operand) → trim ≡ Some from → from.var < length vars) → option_map_or (cuts_wrong vars whole) trim false ≡ false
-        → (least_length vars rest whole ≤ trimmed (map f vars) rest whole) × (trimmed (map f vars) rest whole ≤ whole)
-        → (option_map_or (number_in (map least vars)) trim (least_length vars rest whole) ≤ option_map_or (number_in (map f vars)) trim (trimmed (map f vars) rest whole))
-        × (option_map_or (number_in (map f vars)) trim (trimmed (map f vars) rest whole) ≤ whole)
+        → (least_length vars rest whole ≤ trimmed values rest whole) × (trimmed values rest whole ≤ whole)
+        → (option_map_or (number_in (map least vars)) trim (least_length vars rest whole) ≤ option_map_or (number_in values) trim (trimmed values rest whole))
+        × (option_map_or (number_in values) trim (trimmed values rest whole) ≤ whole)
     by_trim None takes fine later = later
     by_trim (Some from) takes fine later =
         let range = trim-tells vars whole from fine in
-        let both = number-between f vars from d between (takes from refl) in
+        let both = number-between vars values from d within (takes from refl) in
         (both.0, omega (arith, both.1, range.1))
+
+-- the least packet length is at most the template's length
+pub least_length-within : (vars : List Variable) (instrs : List Instr) (whole : ℕ) → AreSound vars → All (TakesFrom (length vars)) instrs
+    → list_any (trim_wrong vars whole) instrs ≡ false → least_length vars instrs whole ≤ whole
+least_length-within vars instrs whole sound operands fine =
+    let within = values-within 0 vars (recursion_from_All (λ v. fault_of v ≡ None) vars sound) in
+    let range = trimmed-between vars (map (λ v. value_at v 0) vars) (Tuple 0 0 0 0 0) instrs whole within (recursion_from_All (TakesFrom (length vars)) instrs operands) fine in
+    omega (arith, range.0, range.1)
 
 -- the least packet length is at least that of the shortest packet
 pub least_length-bound : (vars : List Variable) (instrs : List Instr) (whole : ℕ) → SHORTEST_PACKET ≤ whole → list_any (trim_wrong vars whole) instrs ≡ false

@@ -1,10 +1,11 @@
 -- Programs, and for which templates and values they are meant. Own.
 use Rattle.std.specs.Prelude.{◌≡◌, ℕ, ◌<◌, ◌≤◌, negsuc, pos, ◌≤ℤ◌, Bool, false, IsTrue, List, length, None, IfSome, All}
-use Rattle.std.specs.List.{list_any, count_by}
+use Rattle.std.specs.List.{AllZip, list_any, count_by}
 use Rattle.trex_layers.specs.declared.sizes.TheConstants.{LONGEST_PACKET, SHORTEST_PACKET}
 use Rattle.trex_fields.specs.Bytes.{IsSize}
 use Rattle.trex_stamp.specs.declared.header.TheConstants.{SHORTEST_STAMPED}
 use Rattle.trex_vars.specs.Variable.{Variable}
+use Rattle.trex_vars.specs.Bounds.{IsBetween, least, greatest}
 use Rattle.trex_vars.specs.Check.{fault_of}
 use Rattle.trex_vars.specs.declared.value.VarValue.{VarValue}
 use Rattle.trex_vm.specs.declared.instr.Instr.{Instr}
@@ -47,6 +48,10 @@ pub record AreOperandsOf (vars : List Variable) (instrs : List Instr) : Type 0 w
 -- no variable has a fault
 abbrev pub AreSound : List Variable → Type 0
 AreSound vars = All (λ variable. fault_of variable ≡ None) vars
+
+-- each value is one that its variable can have: it lies between the variable's ends
+abbrev pub AreWithin : List Variable → List VarValue → Type 0
+AreWithin vars values = AllZip (λ variable value. IsBetween (least variable) value (greatest variable)) vars values
 
 -- what holds of every program
 pub record IsProgram (p : ProgramView) : Type 0 where

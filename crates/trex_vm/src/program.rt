@@ -6,7 +6,6 @@ ghost use Rattle.trex_vm.specs.Rules.{accepts};
 ghost use Rattle.trex_vm.specs.Program.{AreOperandsOf, AreSound, IsProgram, program_view};
 
 use crate::instr::Instr;
-use crate::laws::programs_fit;
 use crate::rules::{accepts, least_length};
 use std::marker::Model;
 use trex_layers::{LONGEST_PACKET, SHORTEST_PACKET};
@@ -71,8 +70,6 @@ impl Program {
         requires accepted { accepts (map variable_of vars.now) template.now stamped instrs.items ≡ true }
         ensures { result ≡ program_view instrs.items (map variable_of vars.now) template.now stamped }
     {
-        // the law bounds the least length by the template's
-        programs_fit();
         let least = least_length(vars, &instrs, template.len());
         Program {
             instrs,
