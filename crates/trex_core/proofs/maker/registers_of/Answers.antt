@@ -1,7 +1,7 @@
-use Rattle.std.proofs.Common.{◌≡◌, ◌++◌, [], ◌∷◌, map, slice_get, ap, ◌∙◌, rules}
+use Rattle.std.proofs.Common.{◌≡◌, ◌++◌, [], ◌∷◌, Bool, List, map, slice_get, sym, ap, ◌∙◌, rules}
 use Rattle.trex_profile.specs.Packets.{values_of}
 use Rattle.trex_profile.specs.Spec.{IsSpecOf}
-use Rattle.trex_vars.specs.Variable.{variable_of}
+use Rattle.trex_vars.specs.Variable.{Variable, variable_of}
 use Rattle.trex_core.specs.Registers.{Standing, values_by}
 use Rattle.trex_core.proofs.Making.{row_more, some_is}
 use Rattle.trex_core.proofs.maker.registers_of.Goals as goal
