@@ -1,3 +1,4 @@
+mod Lists
 mod Periods
 mod Visiting
 mod Noting

@@ -1,13 +1,12 @@
 -- The values of a stream's variables, each at an index of its own.
-use Rattle.std.proofs.Common.{◌≡◌, ℕ, zero, suc, ◌+◌, Bool, List, [], ◌∷◌, length, map, None, ap}
-use Rattle.std.specs.List.{AllByRecursion, filter_map, zip}
+use Rattle.std.proofs.Common.{◌≡◌, ℕ, zero, suc, ◌+◌, Bool, List, [], ◌∷◌, length, None, refl, ap, arith}
+use Rattle.std.specs.List.{AllByRecursion, filter_map}
 use Rattle.trex_vars.specs.Check.{fault_of}
-use Rattle.trex_vars.specs.Value.{value_at}
 use Rattle.trex_vars.specs.Variable.{Variable}
 use Rattle.trex_vars.proofs.BoundsLemmas.{value-between}
 use Rattle.trex_vm.specs.Program.{AreWithin}
 use Rattle.trex_profile.specs.Instruction.{Instruction, FlowVar, ListVar, RandLimit, Tuple, Write, WriteMask, FixIpv4, FixHw, Trim}
-use Rattle.trex_profile.specs.Packets.{index_of}
+use Rattle.trex_profile.specs.Packets.{index_of, values_at}
 use Rattle.trex_profile.specs.Steps.{restart_of, variables_from}
 
 -- of each variable it is said whether it restarts
@@ -24,9 +23,9 @@ restarts-long seed place (FixHw l2 l3 l4 ∷ xs) = restarts-long seed (place + 1
 restarts-long seed place (Trim name ∷ xs) = restarts-long seed (place + 1) xs
 
 -- the values of variables without a fault lie between their ends
-pub indexed-within : (number at : ℕ) (vars : List Variable) (all : List Bool) → length all ≡ length vars → AllByRecursion (λ v. fault_of v ≡ None) vars
-    → AreWithin vars (map (λ (variable, restart). value_at variable (index_of restart number at)) (zip vars all))
-indexed-within number at [] all same sound = tt
-indexed-within number at (v ∷ vars) [] same sound = absurd (cc)
-indexed-within number at (v ∷ vars) (restart ∷ all) same sound =
-    (value-between v (index_of restart number at) sound.0, indexed-within number at vars all (omega arith) sound.1)
+pub values_at-within : (number place : ℕ) (vars : List Variable) (restarts : List Bool) → length restarts ≡ length vars → AllByRecursion (λ v. fault_of v ≡ None) vars
+    → AreWithin vars (values_at vars restarts number place)
+values_at-within number place [] restarts same sound = tt
+values_at-within number place (v ∷ vars) [] same sound = absurd (cc)
+values_at-within number place (v ∷ vars) (restart ∷ restarts) same sound =
+    (value-between v (index_of restart number place) sound.0, values_at-within number place vars restarts (omega arith) sound.1)

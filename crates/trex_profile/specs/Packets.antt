@@ -16,7 +16,7 @@ use Rattle.trex_profile.specs.Steps.{variables_from, restart_of, steps_of, progr
 abbrev pub variables : Stream → List Variable
 variables s = variables_from s.seed 0 s.instrs
 
--- of each of these variables, whether it restarts at each visit of the stream
+-- whether each of the variables restarts at each visit of the stream
 abbrev pub restarts : Stream → List Bool
 restarts s = filter_map restart_of s.instrs
 
@@ -24,10 +24,13 @@ restarts s = filter_map restart_of s.instrs
 abbrev pub index_of : Bool → ℕ → ℕ → ℕ
 index_of restart number place = if restart then place else number
 
+-- the values of variables in the packet of a number, at a place in its run, where it is said of each whether it restarts
+abbrev pub values_at : List Variable → List Bool → ℕ → ℕ → List VarValue
+values_at vars restarts number place = map (λ (variable, restart). value_at variable (index_of restart number place)) (zip vars restarts)
+
 -- the values of a stream's variables in the packet of a number, at a place in its run
 abbrev pub values_of : Stream → ℕ → ℕ → List VarValue
-values_of s number place =
-    map (λ (variable, restart). value_at variable (index_of restart number place)) (zip (variables s) (restarts s))
+values_of s number place = values_at (variables s) (restarts s) number place
 
 -- The program of a stream: its other instructions, in order, each name resolved. A field lies where the headers of the template are.
 abbrev pub program : Stream → List Instr

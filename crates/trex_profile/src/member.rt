@@ -7,7 +7,6 @@ ghost use Rattle.trex_profile.specs.Rules.{numerator_of};
 
 use crate::fault::StreamFault;
 use crate::instructions::program::{parts_of, program_for};
-use crate::instructions::variables::restarts_of;
 use crate::raw::{RawInstr, RawRate, RawStream};
 use crate::rules::times::period_of;
 use std::alloc::Global;
@@ -72,7 +71,6 @@ impl Member {
         let period = period_of(&raw)?;
         let layers = parse(&raw.template);
         let parts = parts_of(alloc, &layers, raw.seed, &raw.instrs)?;
-        let restart = restarts_of(alloc, &raw.instrs)?;
         let program = program_for(
             alloc,
             &parts.vars,
@@ -87,7 +85,7 @@ impl Member {
                 id: raw.id,
                 template: raw.template,
                 vars: parts.vars,
-                restart,
+                restart: parts.restart,
                 program,
                 flow: raw.flow,
             },

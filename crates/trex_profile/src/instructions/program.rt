@@ -1,6 +1,7 @@
 // The variables and the program of a stream.
 
 ghost use Rattle.std.specs.Prelude.{◌≡◌, ◌≤◌, ◌^◌, List, All, IfOk, length, map, true};
+ghost use Rattle.std.specs.List.{filter_map};
 ghost use Rattle.trex_layers.specs.Layers.{BeginBelow};
 ghost use Rattle.trex_vars.specs.Variable.{Variable, variable_of};
 ghost use Rattle.trex_vm.specs.Program.{AreOperandsOf, AreSound, TakesFrom, program_view};
@@ -9,12 +10,12 @@ ghost use Rattle.trex_profile.specs.Answer.{Gives};
 ghost use Rattle.trex_profile.specs.InstrRules.{names_rules, does_rules};
 ghost use Rattle.trex_profile.specs.Instruction.{instruction, IsRawInstr};
 ghost use Rattle.trex_profile.specs.Order.{unless};
-ghost use Rattle.trex_profile.specs.Steps.{variables_from, steps_of, instrs_of, program_of};
+ghost use Rattle.trex_profile.specs.Steps.{restart_of, variables_from, steps_of, instrs_of, program_of};
 
 use crate::fault::StreamFault;
 use crate::instructions::names::names_of;
 use crate::instructions::steps::{Step, program_of, steps_of};
-use crate::instructions::variables::variables_of;
+use crate::instructions::variables::{restarts_of, variables_of};
 use crate::raw::RawInstr;
 use crate::rules::lengths::length_breach;
 use crate::rules::places::place_breach;
@@ -27,6 +28,8 @@ use trex_vm::{Program, least_length, room_of};
 #[derive(Drop)]
 pub(crate) struct Parts {
     pub(crate) vars: Vec<VarSpec>,
+    /// Of each variable, whether it restarts at each visit.
+    pub(crate) restart: Vec<bool>,
     pub(crate) steps: Vec<Step>,
 }
 
@@ -45,6 +48,8 @@ pub(crate) fn parts_of(
         (unless (names_rules layers.now seed (map instruction instrs.now))
         (variables_from seed 0 (map instruction instrs.now), steps_of layers.now (map instruction instrs.now))) }
     ensures vars { IfOk result (λ parts. map variable_of parts.vars.items ≡ variables_from seed 0 (map instruction instrs.now)) }
+    ensures restart { IfOk result (λ parts. parts.restart.items ≡ filter_map restart_of (map instruction instrs.now)) }
+    ensures paired { IfOk result (λ parts. length parts.restart.items ≡ length parts.vars.items) }
     ensures steps { IfOk result (λ parts. parts.steps.items ≡ steps_of layers.now (map instruction instrs.now)) }
     ensures sound { IfOk result (λ parts. AreSound (map variable_of parts.vars.items)) }
     ensures few { IfOk result (λ parts. length parts.steps.items ≤ 256) }
@@ -54,7 +59,12 @@ pub(crate) fn parts_of(
     let names = names_of(alloc, instrs)?;
     let vars = variables_of(alloc, seed, instrs)?;
     let steps = steps_of(alloc, layers, &names, instrs)?;
-    Ok(Parts { vars, steps })
+    let restart = restarts_of(alloc, instrs)?;
+    Ok(Parts {
+        vars,
+        restart,
+        steps,
+    })
 }
 
 /// The program of a stream's steps, or the first rule on what they do that is broken.

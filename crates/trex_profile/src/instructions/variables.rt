@@ -115,12 +115,12 @@ fn sound_variable(
     Ok(Some(var))
 }
 
-/// Puts a variable, where there is one, after the others.
-fn keep(vars: &mut Vec<VarSpec>, var: Option<VarSpec>) -> Result<(), Memory>
-    ensures { IfOk result (λ _. vars.new.items ≡ vars.old.items ++ option_to_list var) }
+/// Puts an item, where there is one, after the others.
+fn keep<T: Drop>(items: &mut Vec<T>, item: Option<T>) -> Result<(), Memory>
+    ensures { IfOk result (λ _. items.new.items ≡ items.old.items ++ option_to_list item) }
 {
-    if let Some(var) = var {
-        vars.push(var)?;
+    if let Some(item) = item {
+        items.push(item)?;
     }
     Ok(())
 }
@@ -165,9 +165,7 @@ pub(crate) fn restarts_of(alloc: Global, instrs: &[RawInstr]) -> Result<Vec<bool
 {
     let mut restarts = Vec::new(alloc);
     for instr in instrs {
-        if let Some(restart) = restart_of(instr) {
-            restarts.push(restart)?;
-        }
+        keep(&mut restarts, restart_of(instr))?;
     }
     Ok(restarts)
 }

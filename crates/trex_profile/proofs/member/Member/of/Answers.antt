@@ -16,7 +16,7 @@ use Rattle.trex_profile.specs.Packets.{variables, restarts, values_of, program, 
 use Rattle.trex_profile.specs.Steps.{restart_of, variables_from, steps_of, program_of}
 use Rattle.trex_profile.specs.Stream.{Stream, raw_stream}
 use Rattle.trex_profile.proofs.OrderLemmas.{unless-kept}
-use Rattle.trex_profile.proofs.Restarts.{indexed-within, restarts-long}
+use Rattle.trex_profile.proofs.Restarts.{values_at-within, restarts-long}
 use Rattle.trex_profile.proofs.member.Member.of.Goals as goal
 
 pub returns-clause-spec : goal.returns-clause-spec
@@ -27,12 +27,12 @@ returns-clause-spec c =
     let layers : c.parse-layers.result ≡ parsed s.template = c.parse-layers.ensures.value ∙ ap parsed c.deref.ensures.value in
     let steps = c.in_ok-parts.ensures.steps ∙ ap (λ raws. steps_of c.parse-layers.result (map instruction raws)) c.deref-2.ensures.value
     ∙ ap (λ found. steps_of found s.instrs) layers in
-    let held_vars : map variable_of c.deref-4.result.now ≡ variables s = ap (map variable_of) c.deref-4.ensures.value ∙ vars in
-    let held_program : program_of c.deref-5.result.now ≡ program s = ap program_of (c.deref-5.ensures.value ∙ steps) in
+    let held_vars : map variable_of c.deref-3.result.now ≡ variables s = ap (map variable_of) c.deref-3.ensures.value ∙ vars in
+    let held_program : program_of c.deref-4.result.now ≡ program s = ap program_of (c.deref-4.ensures.value ∙ steps) in
     let same : (X : Type 0) (f : List Variable → List Instr → List ℕ → Bool → X)
-    → f (map variable_of c.deref-4.result.now) (program_of c.deref-5.result.now) c.deref-6.result.now c.is_some.result ≡ f (variables s) (program s) s.template (is_some s.flow) =
-    λ X f. ap (λ v. f v (program_of c.deref-5.result.now) c.deref-6.result.now c.is_some.result) held_vars ∙ ap (λ p. f (variables s) p c.deref-6.result.now c.is_some.result) held_program
-    ∙ ap (λ t. f (variables s) (program s) t c.is_some.result) c.deref-6.ensures.value ∙ ap (λ b. f (variables s) (program s) s.template b) c.is_some.ensures in
+    → f (map variable_of c.deref-3.result.now) (program_of c.deref-4.result.now) c.deref-5.result.now c.is_some.result ≡ f (variables s) (program s) s.template (is_some s.flow) =
+    λ X f. ap (λ v. f v (program_of c.deref-4.result.now) c.deref-5.result.now c.is_some.result) held_vars ∙ ap (λ p. f (variables s) p c.deref-5.result.now c.is_some.result) held_program
+    ∙ ap (λ t. f (variables s) (program s) t c.is_some.result) c.deref-5.ensures.value ∙ ap (λ b. f (variables s) (program s) s.template b) c.is_some.ensures in
     let plan : c.in_ok-program.program ≡ program_view (program s) (variables s) s.template (is_some s.flow) =
     sym (unless-kept _ _ _ c.in_ok-program.ensures.value).1 ∙ same ProgramView (λ v p t b. program_view p v t b) in
     let accepted : accepts (variables s) s.template (is_some s.flow) (program s) ≡ true = sym (same Bool (λ v p t b. accepts v t b p)) ∙ c.in_ok-program.ensures.accepts in
@@ -41,7 +41,7 @@ returns-clause-spec c =
     (subst (λ (p : List Instr). AreOperandsOf (map variable_of c.in_ok-parts.parts.vars.items) p) (ap program_of steps) c.in_ok-parts.ensures.operands) in
     let sound : AreSound (variables s) = subst AreSound vars c.in_ok-parts.ensures.sound in
     let within : (number place : ℕ) → AreWithin (variables s) (values_of s number place) =
-    λ number place. indexed-within number place (variables s) (restarts s) (restarts-long s.seed 0 s.instrs) (recursion_from_All (λ v. fault_of v ≡ None) (variables s) sound) in
+    λ number place. values_at-within number place (variables s) (restarts s) (restarts-long s.seed 0 s.instrs) (recursion_from_All (λ v. fault_of v ≡ None) (variables s) sound) in
     let Ends : ℕ → ℕ → ℕ → Option ℕ → Type 0 = λ number place time flow. IfSome (option_map (λ f. stamp f number time) flow) (λ st.
     (front : List ℕ) × (packet (program s) (values_of s number place) (option_map (λ f. stamp f number time) flow) s.template ≡ front ++ stamp_bytes st)) in
     let ends : (number place time : ℕ) (flow : Option ℕ) → accepts (variables s) s.template (is_some flow) (program s) ≡ true → Ends number place time flow =
@@ -56,7 +56,7 @@ returns-clause-spec c =
       template = refl;
       flow = refl;
       vars = vars;
-      restart = c.in_ok-restart.ensures ∙ ap (λ raws. filter_map restart_of (map instruction raws)) c.deref-3.ensures.value;
+      restart = c.in_ok-parts.ensures.restart ∙ ap (λ raws. filter_map restart_of (map instruction raws)) c.deref-2.ensures.value;
       sound = sound;
       plan = plan;
       fits = subst (λ (p : ProgramView). IsTemplateOf p s.template) (sym plan) (c.programs_fit.ensures.template (program s) (variables s) s.template (is_some s.flow) accepted);

@@ -10,7 +10,7 @@ use Rattle.trex_profile.proofs.profile.Profile.len.Goals as goal
 
 -- no packet of a stream is longer than the longest
 abbrev IsShort : Stream → Type 0
-IsShort s = (number time : ℕ) → length (packet_of s number time) ≤ LONGEST_PACKET
+IsShort s = (number place time : ℕ) → length (packet_of s number place time) ≤ LONGEST_PACKET
 
 -- what holds of each member holds of each stream
 each-stream : (P : Stream → Type 0) (members : List Member) (p : List Stream) → map member_stream members ≡ p → All (λ m. P (member_stream m)) members
