@@ -5,8 +5,8 @@ use Rattle.std.proofs.lemmas.List.Elements.{All-get_or}
 use Rattle.std.specs.List.{AllByRecursion}
 use Rattle.trex_core.specs.declared.registers.Move.{Move}
 use Rattle.trex_core.specs.declared.registers.Register.{Register}
-use Rattle.trex_core.specs.Registers.{IsAt, end_of, moved, restarts_of, shown, values_by, variables_of}
-use Rattle.trex_profile.specs.Packets.{index_of}
+use Rattle.trex_core.specs.Registers.{IsAt, end_of, moved, restarts_of, shown, variables_of}
+use Rattle.trex_profile.specs.Packets.{index_of, values_at}
 use Rattle.trex_vars.specs.Check.{fault_of}
 use Rattle.trex_vars.specs.declared.spec.VarSpec.{VarSpec}
 use Rattle.trex_vars.specs.declared.value.VarValue.{VarValue}
@@ -50,7 +50,7 @@ restarts-moved by_number by_place (r ∷ rs) = ap (λ (bs : List Bool). r.restar
 
 -- what registers show that stand at a packet
 pub shown_is : (cores number place : ℕ) (rs : List Register) → AllByRecursion (IsAt cores number place) rs
-    → map shown rs ≡ values_by (record { variables = variables_of rs; restarts = restarts_of rs; cores = cores; number = number; place = place }) number place
+    → map shown rs ≡ values_at (variables_of rs) (restarts_of rs) number place
 shown_is cores number place [] at = refl
 shown_is cores number place (r ∷ rs) at =
     ap (λ n. value_at r.strided.variable n ∷ map shown rs) at.0.index

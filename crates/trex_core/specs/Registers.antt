@@ -1,10 +1,10 @@
 -- Where a core stands among the values of a stream's variables. Own.
 use Rattle.std.specs.Prelude.{◌≡◌, ℕ, ◌+◌, ◌<◌, ◌^◌, Bool, if◌then◌else◌, List, map}
-use Rattle.std.specs.List.{AllByRecursion, zip}
+use Rattle.std.specs.List.{AllByRecursion}
 use Rattle.trex_vars.specs.declared.value.VarValue.{VarValue}
 use Rattle.trex_vars.specs.Value.{value_at}
 use Rattle.trex_vars.specs.Variable.{Variable}
-use Rattle.trex_profile.specs.Packets.{index_of}
+use Rattle.trex_profile.specs.Packets.{index_of, values_at}
 use Rattle.trex_core.specs.declared.registers.Move.{Move}
 use Rattle.trex_core.specs.declared.registers.Move.TheVariants.{Stay, Step, Seek}
 use Rattle.trex_core.specs.declared.registers.Register.{Register}
@@ -19,8 +19,7 @@ pub record Standing : Type 0 where
 
 -- the values that the registers of these variables show in the packet of a number, at a place in its run
 abbrev pub values_by : Standing → ℕ → ℕ → List VarValue
-values_by standing number place =
-    map (λ (variable, restart). value_at variable (index_of restart number place)) (zip standing.variables standing.restarts)
+values_by standing number place = values_at standing.variables standing.restarts number place
 
 -- where a move leads from an index, of so many cores
 abbrev pub end_of : Move → ℕ → ℕ → ℕ
