@@ -1,6 +1,6 @@
 // The making of a core's packets.
 
-ghost use Rattle.std.specs.Prelude.{◌≡◌, ◌<◌, ◌≤◌, ◌^◌, IfOk, IsSomeAnd, length, map, slice_get, take};
+ghost use Rattle.std.specs.Prelude.{◌≡◌, ◌%◌, ◌<◌, ◌≤◌, ◌^◌, IfOk, IsSomeAnd, length, map, slice_get, take};
 ghost use Rattle.std.specs.Option.{option_map};
 ghost use Rattle.trex_core.specs.Plan.{IsSlotOf, packet_bytes};
 ghost use Rattle.trex_core.specs.Registers.{values_by};
