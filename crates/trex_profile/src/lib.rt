@@ -4,6 +4,7 @@
 mod admission;
 mod chains;
 mod fault;
+mod flow;
 mod instructions;
 mod laws;
 mod member;
@@ -16,6 +17,7 @@ mod rules;
 
 pub use admission::{AdmitFault, admit};
 pub use fault::StreamFault;
+pub use flow::Flow;
 pub use laws::{profiles_can_be_walked, value_rules_in_order};
 pub use member::StreamSpec;
 pub use name::Name;

@@ -13,11 +13,7 @@ use Rattle.trex_stamp.specs.declared.header.Stamp.{Stamp}
 use Rattle.trex_stamp.specs.declared.header.Version.{Version}
 use Rattle.trex_stamp.specs.declared.header.Version.TheVariants.{One, Two}
 use Rattle.trex_stamp.specs.Stamp.{IsStamp, ends_in, flow_place, flow_size, last_bytes, last_stamp, marks, sequence_place, sequence_size, size_of, spelled, stamp_bytes, stamp_of, time_place}
-
--- a header has its length
-length-stamp_bytes : (v : Version) (flow sequence time : ℕ) → length (stamp_bytes (record { version = v; flow = flow; sequence = sequence; time = time })) ≡ size_of v
-length-stamp_bytes One flow sequence time = refl
-length-stamp_bytes Two flow sequence time = refl
+use Rattle.trex_stamp.proofs.StampLemmas.{length-stamp_bytes}
 
 -- the numbers of a header are read back from it
 spelled-stamp_bytes : (s : Stamp) → IsStamp s → spelled s.version (stamp_bytes s) ≡ s
@@ -45,14 +41,14 @@ spelled-stamp_bytes s fits =
 -- the last bytes of a stamped packet are its header
 last_bytes-stamped : (s : Stamp) (front : List ℕ) → last_bytes (size_of s.version) (front ++ stamp_bytes s) ≡ stamp_bytes s
 last_bytes-stamped s front =
-    drop_at front (stamp_bytes s) _ (omega (arith, length-append front (stamp_bytes s), length-stamp_bytes s.version s.flow s.sequence s.time))
+    drop_at front (stamp_bytes s) _ (omega (arith, length-append front (stamp_bytes s), length-stamp_bytes s))
 
 -- a stamped packet ends in its header
 ends_in-stamped : (s : Stamp) (front : List ℕ) → ends_in s.version (front ++ stamp_bytes s) ≡ true
 ends_in-stamped s front =
     let v = s.version in
     let long : nat_le (size_of v) (length (front ++ stamp_bytes s)) ≡ true =
-    grind (arith, nat_tests, length-append front (stamp_bytes s), length-stamp_bytes v s.flow s.sequence s.time) in
+    grind (arith, nat_tests, length-append front (stamp_bytes s), length-stamp_bytes s) in
     let marked : starts_with nat_eq (last_bytes (size_of v) (front ++ stamp_bytes s)) (marks v) ≡ true =
     (starts_is Decides-eqb (last_bytes (size_of v) (front ++ stamp_bytes s)) (marks v) _ refl).1 _ (last_bytes-stamped s front) in
     rw (long, marked) refl

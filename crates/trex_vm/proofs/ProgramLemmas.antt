@@ -1,12 +1,12 @@
 -- The ends between which the numbers of operands lie, and what an accepted program has.
-use Rattle.std.proofs.Common.{◌≡◌, ℕ, zero, suc, ◌<◌, ◌≤◌, List, [], ◌∷◌, length, get_or, map, refl, sym, ap, subst, ◌∙◌, arith, Option, Some, None, IfSome, Bool, true, false, not, ◌&&◌, nat_le, nat_lt, All, IsTrue}
+use Rattle.std.proofs.Common.{◌≡◌, ℕ, zero, suc, ◌<◌, ◌≤◌, List, [], ◌∷◌, length, get_or, map, refl, sym, ap, subst, ◌∙◌, arith, Option, Some, None, IfSome, Bool, true, false, not, ◌&&◌, nat_le, nat_lt, All}
 use Rattle.std.proofs.lemmas.Bool.{and_parts, or_parts, not-true, leb-true, ltb-false}
 use Rattle.std.proofs.lemmas.List.{get_or-map, length-map}
 use Rattle.std.proofs.lemmas.List.Elements.{recursion_from_All}
 use Rattle.std.specs.List.{AllByRecursion, list_any, count_by}
 use Rattle.std.specs.Option.{option_map_or}
 use Rattle.trex_layers.specs.declared.sizes.TheConstants.{LONGEST_PACKET, SHORTEST_PACKET}
-use Rattle.trex_stamp.specs.declared.header.TheConstants.{SHORTEST_STAMPED}
+use Rattle.trex_stamp.specs.declared.header.Version.{Version}
 use Rattle.trex_vars.specs.Variable.{Variable, Tuple, variable_of}
 use Rattle.trex_vars.specs.Check.{fault_of}
 use Rattle.trex_vars.specs.Value.{value_at}
@@ -23,7 +23,7 @@ use Rattle.trex_vm.specs.declared.instr.Instr.TheVariants.{Write, WriteMask}
 use Rattle.trex_vm.specs.Effect.{trim_of}
 use Rattle.trex_vm.specs.Write.{part_of, number_in}
 use Rattle.trex_vm.specs.Packet.{trimmed}
-use Rattle.trex_vm.specs.Rules.{least_length, room_of, is_trim, cuts_wrong, trim_wrong, writes_past, misses_header, overwrites_header_kind, accepts}
+use Rattle.trex_vm.specs.Rules.{least_length, room_of, no_room_for_stamp, is_trim, cuts_wrong, trim_wrong, writes_past, misses_header, overwrites_header_kind, accepts}
 use Rattle.trex_vm.specs.Program.{AreSound, AreWithin, IsFormed, IsProgram, TakesFrom, program_view}
 
 -- the number that an operand takes from values that a function gives
@@ -133,12 +133,12 @@ least_length-bound vars (i ∷ rest) whole long fine =
     by_trim (Some from) fine later = (trim-tells vars whole from fine).0
 
 -- what an accepted program has
-pub record Accepted (vars : List Variable) (template : List ℕ) (stamped : Bool) (instrs : List Instr) : Type 0 where
+pub record Accepted (vars : List Variable) (template : List ℕ) (stamp : Option Version) (instrs : List Instr) : Type 0 where
   pub trims : count_by is_trim instrs ≤ 1
   pub cuts : list_any (trim_wrong vars (length template)) instrs ≡ false
-  pub stamp : (stamped && nat_lt (least_length vars instrs (length template)) SHORTEST_STAMPED) ≡ false
-  pub places : list_any (writes_past (room_of (least_length vars instrs (length template)) stamped)) instrs ≡ false
-  pub headers : list_any (misses_header template (room_of (least_length vars instrs (length template)) stamped)) instrs ≡ false
+  pub room : no_room_for_stamp (least_length vars instrs (length template)) stamp ≡ false
+  pub places : list_any (writes_past (room_of (least_length vars instrs (length template)) stamp)) instrs ≡ false
+  pub headers : list_any (misses_header template (room_of (least_length vars instrs (length template)) stamp)) instrs ≡ false
   pub kinds : list_any (overwrites_header_kind instrs) instrs ≡ false
 
 six_parts : (a b c d e f : Bool) → (a && not b && not c && not d && not e && not f) ≡ true
@@ -151,23 +151,19 @@ six_parts a b c d e f all =
     let one = and_parts a (not b) two.0 in
     (one.0, not-true b one.1, not-true c two.1, not-true d three.1, not-true e four.1, not-true f five.1)
 
-pub accepts-tells : (vars : List Variable) (template : List ℕ) (stamped : Bool) (instrs : List Instr) → accepts vars template stamped instrs ≡ true
-    → Accepted vars template stamped instrs
-accepts-tells vars template stamped instrs accepted =
+pub accepts-tells : (vars : List Variable) (template : List ℕ) (stamp : Option Version) (instrs : List Instr) → accepts vars template stamp instrs ≡ true
+    → Accepted vars template stamp instrs
+accepts-tells vars template stamp instrs accepted =
     let all = six_parts (nat_le (count_by is_trim instrs) 1) _ _ _ _ _ accepted in
-    record { trims = leb-true (count_by is_trim instrs) 1 all.0; cuts = all.1; stamp = all.2; places = all.3; headers = all.4; kinds = all.5 }
-
-pub stamp-tells : (stamped : Bool) (shortest : ℕ) → (stamped && nat_lt shortest SHORTEST_STAMPED) ≡ false → IsTrue stamped → SHORTEST_STAMPED ≤ shortest
-stamp-tells true shortest fine is = ltb-false shortest SHORTEST_STAMPED fine
-stamp-tells false shortest fine is = absurd (cc)
+    record { trims = leb-true (count_by is_trim instrs) 1 all.0; cuts = all.1; room = all.2; places = all.3; headers = all.4; kinds = all.5 }
 
 -- what is accepted is a program
-pub accepted-program : (instrs : List Instr) (vars : List Variable) (template : List ℕ) (stamped : Bool) → SHORTEST_PACKET ≤ length template → length template ≤ LONGEST_PACKET
-    → All IsFormed instrs → least_length vars instrs (length template) ≤ length template → Accepted vars template stamped instrs
-    → IsProgram (program_view instrs vars template stamped)
-accepted-program instrs vars template stamped long short formed cut known = record {
+pub accepted-program : (instrs : List Instr) (vars : List Variable) (template : List ℕ) (stamp : Option Version) → SHORTEST_PACKET ≤ length template → length template ≤ LONGEST_PACKET
+    → All IsFormed instrs → least_length vars instrs (length template) ≤ length template → Accepted vars template stamp instrs
+    → IsProgram (program_view instrs vars template stamp)
+accepted-program instrs vars template stamp long short formed cut known = record {
   long = least_length-bound vars instrs (length template) long known.cuts;
-  stamp = stamp-tells stamped (least_length vars instrs (length template)) known.stamp;
+  stamp = known.room;
   cut = cut;
   short = short;
   trims = known.trims;
