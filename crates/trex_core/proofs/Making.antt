@@ -1,11 +1,13 @@
 -- A packet, made from what its stream's packets are made of.
-use Rattle.std.proofs.Common.{◌≡◌, ℕ, zero, suc, ◌+◌, ◌*◌, ◌%◌, ◌<◌, ◌^◌, Option, None, Some, List, [], ◌∷◌, ◌++◌, get_or, length, map, take, slice_get, refl, sym, ap, ◌∙◌, subst, arith}
+use Rattle.std.proofs.Common.{◌≡◌, ℕ, zero, suc, ◌+◌, ◌*◌, ◌<◌, ◌^◌, Option, None, Some, List, [], ◌∷◌, ◌++◌, get_or, length, map, take, slice_get, refl, sym, ap, ◌∙◌, subst, arith}
 use Rattle.std.specs.Option.{IsSomeAnd, option_map, option_map_or}
 use Rattle.std.proofs.lemmas.List.{length-map, map_push, take_more}
 use Rattle.std.proofs.lemmas.Option.{slice_get-get_or, slice_get_within}
 use Rattle.trex_core.specs.Plan.{packet_bytes}
 use Rattle.trex_profile.specs.declared.member.StreamSpec.{StreamSpec}
 use Rattle.trex_profile.specs.Packets.{packet_of, program, stamp_at, values_of}
+use Rattle.trex_profile.specs.declared.flow.Flow.{Flow}
+use Rattle.trex_profile.specs.Flow.{stamp_with}
 use Rattle.trex_profile.specs.Spec.{IsSpecOf}
 use Rattle.trex_profile.specs.Stream.{Stream}
 use Rattle.trex_sched.specs.declared.slot.Slot.{Slot}
@@ -27,13 +29,13 @@ at_stream p position s P there said = subst (λ (o : Option Stream). IsSomeAnd o
 -- the packet of these parts is that of the stream
 pub packet_is : (p : List Stream) (base : ℕ) (slot : Slot) (s : Stream) (spec : StreamSpec) (values : List VarValue) (stamp : Option Stamp) (template : List ℕ) (time : ℕ)
     → slice_get p slot.stream ≡ Some s → IsSpecOf s spec → values ≡ values_of s slot.number slot.in_run → time ≡ base * 10 ^ 9 + slot.time
-    → stamp ≡ option_map (λ flow. record { flow = flow; sequence = slot.number % 2 ^ 32; time = time }) spec.flow → template ≡ spec.template.items
+    → stamp ≡ option_map (λ flow. stamp_with flow slot.number time) spec.flow → template ≡ spec.template.items
     → packet spec.program.instrs values stamp template ≡ packet_bytes p base slot
 unfolding packet_bytes
 packet_is p base slot s spec values stamp template time there is read due header bytes =
     let instrs : spec.program.instrs ≡ program s = ap (λ (view : ProgramView). view.instrs) is.plan in
     let stamped : stamp ≡ stamp_at s slot.number (base * 10 ^ 9 + slot.time) =
-    header ∙ ap (option_map (λ (flow : ℕ). let h : Stamp = record { flow = flow; sequence = slot.number % 2 ^ 32; time = time } in h)) is.flow ∙ ap (stamp_at s slot.number) due in
+    header ∙ ap (option_map (λ (flow : Flow). stamp_with flow slot.number time)) is.flow ∙ ap (stamp_at s slot.number) due in
     ap (λ (is : List Instr). packet is values stamp template) instrs
     ∙ ap (λ (vs : List VarValue). packet (program s) vs stamp template) read
     ∙ ap (λ (h : Option Stamp). packet (program s) (values_of s slot.number slot.in_run) h template) stamped
