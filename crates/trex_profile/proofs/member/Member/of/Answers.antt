@@ -12,11 +12,12 @@ use Rattle.trex_vm.specs.Packet.{packet, version_of}
 use Rattle.trex_vm.specs.Program.{ProgramView, AreOperandsOf, AreSound, AreValuesOf, AreWithin, IsTemplateOf, program_view}
 use Rattle.trex_vm.specs.Rules.{accepts}
 use Rattle.trex_profile.specs.declared.flow.Flow.{Flow}
-use Rattle.trex_profile.specs.Flow.{stamp_with}
+use Rattle.trex_profile.specs.Flow.{IsFlow, stamp_with}
 use Rattle.trex_profile.specs.Instruction.{instruction}
 use Rattle.trex_profile.specs.Packets.{variables, restarts, values_of, program, stamp_at, stamp_version}
 use Rattle.trex_profile.specs.Steps.{restart_of, variables_from, steps_of, program_of}
 use Rattle.trex_profile.specs.Stream.{Stream, raw_stream}
+use Rattle.trex_profile.proofs.FlowLemmas.{flow-there}
 use Rattle.trex_profile.proofs.OrderLemmas.{unless-kept}
 use Rattle.trex_profile.proofs.Restarts.{values_at-within, restarts-long}
 use Rattle.trex_profile.proofs.member.Member.of.Goals as goal
@@ -68,7 +69,7 @@ returns-clause-spec c =
           (subst (λ v. accepts (variables s) s.template v (program s) ≡ true) (sym (stamps number time s.flow)) accepted) c.in_ok-period.ensures.at_least c.in_ok-period.ensures.at_most in
           let most = c.in_ok-period.ensures.at_most in
           omega (arith, cut, most);
-      flows = c.requires.flow;
+      flows = flow-there IsFlow s.flow c.requires.flow;
       stamped = λ number place time. ends number place time s.flow accepted;
     }
   where
