@@ -8,3 +8,4 @@ pub mod Layers
 pub mod Shape
 pub mod Order
 pub mod Verdict
+pub mod EntryId

@@ -4,6 +4,7 @@
 mod addresses;
 mod binary;
 mod entry;
+mod entry_id;
 mod flow;
 mod instr;
 mod kinds;
@@ -14,5 +15,6 @@ mod order;
 mod reading;
 mod stream;
 
+pub use entry_id::read_entry_id;
 pub use order::shape_rules_in_order;
 pub use reading::{LONGEST_TEXT, ProfileFault, read_profile};
