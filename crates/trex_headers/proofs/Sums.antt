@@ -1,5 +1,5 @@
 -- The sums of what a checksum covers.
-use Rattle.std.proofs.Common.{◌≡◌, ℕ, ◌+◌, ◌-◌, ◌%◌, ◌<◌, List, [], ◌∷◌, ◌++◌, length, ap, ◌∙◌, arith, length-append}
+use Rattle.std.proofs.Common.{◌≡◌, ℕ, ◌+◌, ◌-◌, ◌%◌, ◌<◌, List, ◌∷◌, ◌++◌, length, ap, ◌∙◌, arith, length-append}
 use Rattle.byteorder.specs.Endian.{big_bytes}
 use Rattle.trex_sum.specs.Checksum.{sum_of, fold_of}
 use Rattle.trex_sum.proofs.SumLemmas.{sum_of-append}

@@ -60,10 +60,11 @@ impl Fix {
         let at = match self {
             Fix::Header { at } => at as u128 + HEADER_SUM as u128,
             Fix::Segment {
-                ip, header, kind, ..
-            } => {
-                ip as u128 + header as u128 + sum_place(kind) as u128
-            }
+                ip,
+                header,
+                kind,
+                ..
+            } => { ip as u128 + header as u128 + sum_place(kind) as u128 }
         };
         Span { at, size: 2 }
     }
