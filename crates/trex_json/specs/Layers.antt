@@ -1,6 +1,5 @@
 -- The packet of a stream, as bytes or by layers, and the rules on it (own).
-use Rattle.std.specs.Prelude.{ℕ, ◌||◌, Bool, List, [], ◌∷◌, map, Option, is_none, is_some, option_map, codes, if◌then◌else◌}
-use Rattle.std.specs.List.{list_any}
+use Rattle.std.specs.Prelude.{ℕ, ◌||◌, ◌==◌, Bool, count_by, List, [], ◌∷◌, map, Option, is_none, is_some, option_map, codes, if◌then◌else◌}
 use Rattle.serde_json.specs.Data.{Data}
 use Rattle.trex_headers.specs.declared.layer.Version.{Version}
 use Rattle.trex_headers.specs.declared.layer.Version.TheVariants.{V4, V6}
@@ -97,9 +96,9 @@ layer_of d = layer_by (value row.layer_type d) d
 abbrev pub layers_of : Data → List Layer
 layers_of packet = map layer_of (value row.layers packet)
 
--- the version of IP over which layers are built: that of IPv6 where one of them is its header
+-- the version of IP over which layers are built: 6 where one of them is its header, else 4
 abbrev pub version_over : List Layer → Version
-version_over layers = if list_any is_ipv6 layers then V6 else V4
+version_over layers = if count_by is_ipv6 layers == 0 then V4 else V6
 
 -- the rule on the order of layers, at the first that can't stand where it does
 abbrev pub order_rule : List Layer → Option Breach

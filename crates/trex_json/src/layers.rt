@@ -1,9 +1,10 @@
 // The packet of a stream, as bytes or by layers.
 
-ghost use Rattle.std.specs.Prelude.{◌≡◌, map, IfOk, None, Some, option_map, if◌then◌else◌};
+ghost use Rattle.std.specs.Prelude.{◌≡◌, count_by, map, IfOk, None, Some, option_map, if◌then◌else◌};
 ghost use Rattle.serde_json.specs.View.{view};
 ghost use Rattle.trex_headers.specs.Built.{built};
 ghost use Rattle.trex_headers.specs.Layer.{layer_of as lent_layer};
+ghost use Rattle.trex_headers.specs.Order.{is_ipv6};
 ghost use Rattle.trex_profile.specs.Answer.{Gives};
 ghost use Rattle.trex_profile.specs.Order.{first_each, unless};
 ghost use Rattle.trex_json.specs.Layer.{layer};
@@ -185,14 +186,25 @@ fn each_layer(alloc: Global, items: &[Value]) -> Result<Vec<AnyLayer>, StreamFau
     Ok(layers)
 }
 
-/// The version of IP over which layers are built: that of IPv6 where one of them is its header.
+/// The number of IPv6 headers among these layers.
+fn ipv6_headers(layers: &[LayerView<'_>]) -> usize
+    ensures { result ≡ count_by is_ipv6 (map lent_layer layers.now) }
+{
+    layers
+        .iter()
+        .filter(|layer| matches!(layer, LayerView::Ipv6 { .. }))
+        .count()
+}
+
+/// The version of IP over which layers are built: 6 where one of them is its header, else 4.
 fn version_over(layers: &[LayerView<'_>]) -> Version
     ensures { result ≡ version_over (map lent_layer layers.now) }
 {
-    let over_ipv6 = layers
-        .iter()
-        .any(|layer| matches!(layer, LayerView::Ipv6 { .. }));
-    if over_ipv6 { Version::V6 } else { Version::V4 }
+    if ipv6_headers(layers) == 0 {
+        Version::V4
+    } else {
+        Version::V6
+    }
 }
 
 /// The packet of some layers.
