@@ -17,7 +17,7 @@ use Rattle.trex_json.specs.Shape.{shape_refusal, entry_stream}
 abbrev pub array_of : List ℕ → Option (List Data)
 array_of text = option_and_then an_array (json_of text)
 
--- the same, none where it isn't one
+-- the entries of a text, none where it isn't an array
 abbrev pub entries : List ℕ → List Data
 entries text = unwrap_or (array_of text) []
 

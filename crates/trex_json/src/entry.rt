@@ -1,3 +1,5 @@
+// The entries of a profile.
+
 ghost use Rattle.std.specs.Prelude.{◌≤◌, All, IfOk, length, map};
 ghost use Rattle.serde_json.specs.View.{view};
 ghost use Rattle.trex_profile.specs.Order.{first_each, unless};
@@ -8,7 +10,7 @@ ghost use Rattle.trex_json.specs.Shape.{entry_rules, entry_stream, shape_refusal
 
 use crate::fault::ProfileFault;
 use crate::kinds::an_object;
-use crate::names::{object_told, whole_told};
+use crate::names::{object_field, whole_field};
 use crate::stream::stream_of;
 use serde_json::Value;
 use std::alloc::Global;
@@ -21,10 +23,10 @@ fn entry_of(alloc: Global, entry: &Value) -> Result<RawStream, StreamFault>
     ensures ranges { IfOk result IsRawStream }
 {
     let entry = an_object(entry).ok_or(StreamFault::of_stream(Rule::BadEntry))?;
-    let id = whole_told(entry, "stream_id", 2_147_483_647, None).ok_or(StreamFault::of_stream(
+    let id = whole_field(entry, "stream_id", 2_147_483_647, None).ok_or(StreamFault::of_stream(
         Rule::BadStreamId,
     ))?;
-    let stream = object_told(entry, "stream").ok_or(StreamFault::of_stream(Rule::BadStream))?;
+    let stream = object_field(entry, "stream").ok_or(StreamFault::of_stream(Rule::BadStream))?;
     stream_of(alloc, id as u32, stream)
 }
 

@@ -1,3 +1,5 @@
+// Why a text gives no profile.
+
 use std::alloc::AllocFailed;
 use trex_io::Memory;
 use trex_profile::{AdmitFault, Refusal};

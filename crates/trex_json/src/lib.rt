@@ -5,6 +5,7 @@ mod addresses;
 mod binary;
 mod entry;
 mod fault;
+mod flow;
 mod instr;
 mod kinds;
 mod layers;

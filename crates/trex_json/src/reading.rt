@@ -1,3 +1,5 @@
+// A profile from its text: its JSON reading, the rules on shapes, then those on values.
+
 ghost use Rattle.std.specs.Prelude.{◌≡◌, IfOk, map, option_map};
 ghost use Rattle.serde_json.specs.View.{view};
 ghost use Rattle.trex_profile.specs.Admission.{IsRawProfile};
@@ -76,7 +78,7 @@ fn raw_profile(alloc: Global, text: &[u8]) -> Result<RawProfile, ProfileFault>
     entries_of(alloc, entries)
 }
 
-/// Reads a profile's text. The first rule that it breaks is the refusal; want of memory alone comes freely.
+/// Reads a profile's text. The first rule that it breaks is the refusal; out of memory is the one answer without a cause.
 pub fn read_profile(alloc: Global, text: &[u8]) -> Result<Profile, ProfileFault>
     ensures { Answers result (verdict text.now) }
 {
