@@ -16,7 +16,7 @@ use trex_profile::{
 use trex_sched::Mode;
 use trex_vars::Op;
 
-// A burst of packets, 1,000 a second.
+/// A burst of packets, 1,000 a second.
 fn burst(
     alloc: Global,
     total: u32,
@@ -47,7 +47,7 @@ fn burst(
     admit_one(alloc, stream)
 }
 
-// The profile of one stream.
+/// The profile of one stream.
 fn admit_one(alloc: Global, stream: RawStream) -> Result<Profile, AdmitFault>
     requires { IsRawStream stream }
 {
@@ -56,7 +56,7 @@ fn admit_one(alloc: Global, stream: RawStream) -> Result<Profile, AdmitFault>
     admit(alloc, RawProfile { streams })
 }
 
-// The packets that wait have these numbers, and these bytes at their ends, and no others are to come.
+/// The packets that wait have these numbers, and these bytes at their ends, and no others are to come.
 fn sends(rt: &impl Abort, work: &mut CoreWork<'_>, packets: &[(u64, &[u8])]) {
     for (number, end) in packets {
         match work.head() {
