@@ -1,4 +1,4 @@
-// Pieces of work, and the board on which threads claim them.
+//! Pieces of work that take turns, and the board on which threads claim them.
 #![tactic(auto)]
 
 mod board;
@@ -14,4 +14,4 @@ pub use board::{Board, Seat};
 pub use claim::Claim;
 pub use laws::rules_keep_pieces;
 pub use piece::Piece;
-pub use view::{Role, Round, Stand, View, What};
+pub use view::{Role, Round, CoreState, View, SlotState};

@@ -1,6 +1,8 @@
+// Three pieces on a board, turned by one seat and by two.
+
 ghost use Rattle.std.specs.Prelude.{◌≡◌, ◌≢◌, ℕ, ◌+◌, ◌<◌, ◌^◌, [], true, false, Some, OnSome};
 ghost use Rattle.trex_claims.specs.Views.{IsFirst, IsFull};
-ghost use Rattle.trex_claims.specs.Moves.{opening_view, stand_at, HoldsNone};
+ghost use Rattle.trex_claims.specs.Moves.{opening_view, state_at, HoldsNone};
 ghost use Rattle.trex_claims.specs.Boards.{board_id, cores_of};
 
 use crate::{Board, Piece, Seat};
@@ -47,8 +49,8 @@ fn lend_three(board: &Board<Counter>, seat: &mut Seat<Counter>)
     requires cores { cores_of board.now ≡ 3 }
     requires new { seat.old.me ≡ (opening_view 3, []) }
     ensures board { seat.new.table_id ≡ seat.old.table_id }
-    ensures full { (core : ℕ) → core < 3 → IsFull (stand_at seat.new.me.0 core).what }
-    ensures few { (core : ℕ) → (stand_at seat.new.me.0 core).turns < 2 ^ 63 }
+    ensures full { (core : ℕ) → core < 3 → IsFull (state_at seat.new.me.0 core).slot }
+    ensures few { (core : ℕ) → (state_at seat.new.me.0 core).turns < 2 ^ 63 }
     ensures free { HoldsNone seat.new.me }
     ensures first { IsFirst seat.new.me.0.role }
     ensures closed { seat.new.me.0.round.running ≡ false }
@@ -65,14 +67,14 @@ fn turn_once(board: &Board<Counter>, seat: &mut Seat<Counter>, base: u64) -> Opt
     requires open { seat.old.me.0.round.running ≡ true }
     requires base { base ≡ seat.old.me.0.round.base }
     requires free { HoldsNone seat.old.me }
-    requires untold { seat.old.me.0.told ≡ false }
-    requires few { (core : ℕ) → (stand_at seat.old.me.0 core).turns < 2 ^ 63 }
+    requires no_none_yet { seat.old.me.0.saw_none ≡ false }
+    requires few { (core : ℕ) → (state_at seat.old.me.0 core).turns < 2 ^ 63 }
     ensures board { seat.new.table_id ≡ seat.old.table_id }
     ensures round { seat.new.me.0.round ≡ seat.old.me.0.round }
     ensures role { seat.new.me.0.role ≡ seat.old.me.0.role }
-    ensures outs { seat.new.me.0.outs ≡ seat.old.me.0.outs }
+    ensures seats_out { seat.new.me.0.seats_out ≡ seat.old.me.0.seats_out }
     ensures free { HoldsNone seat.new.me }
-    ensures untold { OnSome result (seat.new.me.0.told ≡ false) }
+    ensures no_none_yet { OnSome result (seat.new.me.0.saw_none ≡ false) }
 {
     let claim = board.draw(seat, base)?;
     let core = claim.core();
@@ -87,15 +89,15 @@ fn fetch_one(board: &Board<Counter>, seat: &mut Seat<Counter>, core: u32) -> Cou
     requires board { seat.old.table_id ≡ board_id board.now }
     requires cores { cores_of board.now ≡ 3 }
     requires first { IsFirst seat.old.me.0.role }
-    requires alone { seat.old.me.0.outs ≡ 0 }
+    requires alone { seat.old.me.0.seats_out ≡ 0 }
     requires free { HoldsNone seat.old.me }
     requires core { core < 3 }
-    requires full { IsFull (stand_at seat.old.me.0 core).what }
+    requires full { IsFull (state_at seat.old.me.0 core).slot }
     ensures board { seat.new.table_id ≡ seat.old.table_id }
     ensures first { IsFirst seat.new.me.0.role }
-    ensures alone { seat.new.me.0.outs ≡ 0 }
+    ensures alone { seat.new.me.0.seats_out ≡ 0 }
     ensures free { HoldsNone seat.new.me }
-    ensures others { (other : ℕ) → other ≢ core → (stand_at seat.new.me.0 other).what ≡ (stand_at seat.old.me.0 other).what }
+    ensures others { (other : ℕ) → other ≢ core → (state_at seat.new.me.0 other).slot ≡ (state_at seat.old.me.0 other).slot }
 {
     board.fetch(seat, core)
 }

@@ -3,21 +3,21 @@ use Rattle.std.proofs.Common.{◌≡◌, ℕ, List, [], ◌∷◌, ◌++◌, ref
 use mathlib.Core.List.{append-nil}
 use Rattle.trex_claims.specs.declared.view.View.{View}
 use Rattle.trex_claims.specs.Boards.{Me}
-use Rattle.trex_claims.specs.Moves.{DrewCore, claims, puts}
+use Rattle.trex_claims.specs.Moves.{DrewCore, after_claim, after_put}
 use Rattle.trex_crew.specs.Gates.{HasEntered}
 use Rattle.trex_crew.specs.Workers.{MayDraw, Worked}
 use Rattle.trex_crew.proofs.EntryLemmas.{entered_next, entered_two}
 
 module _ {T : Type 0} (core turns : T → ℕ) (stem : T → List (List ℕ)) (settled : T → Type 0) (slots c : ℕ) (me drawn after : Me (Option T) View)
-    (drew : DrewCore core turns stem settled slots c me drawn) (put : after ≡ (puts drawn.0, [])) where
+    (drew : DrewCore core turns stem settled slots c me drawn) (put : after ≡ (after_put drawn.0, [])) where
   -- after a core was drawn and put back
-  pub after_is : after ≡ (puts (claims me.0 c), [])
-  after_is = put ∙ ap (λ (m : Me (Option T) View). let n : Me (Option T) View = (puts m.0, []) in n) drew.seat
+  pub after_is : after ≡ (after_put (after_claim me.0 c), [])
+  after_is = put ∙ ap (λ (m : Me (Option T) View). let n : Me (Option T) View = (after_put m.0, []) in n) drew.seat
 
   pub may_draw_on : (base : ℕ) → MayDraw base me → MayDraw base after
   may_draw_on base ready =
-      let seat : Me (Option T) View = (puts (claims me.0 c), []) in
-      let on : MayDraw base seat = record { open_round = ready.open_round; base_is = ready.base_is; free = (refl, refl); untold = ready.untold; turns = ready.turns } in
+      let seat : Me (Option T) View = (after_put (after_claim me.0 c), []) in
+      let on : MayDraw base seat = record { open_round = ready.open_round; base_is = ready.base_is; free = (refl, refl); no_none_yet = ready.no_none_yet; turns = ready.turns } in
       subst (λ m. MayDraw base m) (sym after_is) on
 
   pub worked_on : {G : Type 0} (entries : G → Option (List (ℕ × ℕ))) (round : ℕ) (a b d : G) (before : List ℕ) → Worked entries round (a ∷ []) (b ∷ []) before me.0.done

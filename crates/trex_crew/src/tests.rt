@@ -124,7 +124,7 @@ const LOOKS: u32 = 100_000_000;
 /// How many pieces have begun a turn, and how many of these found that the other had.
 #[derive(Drop)]
 struct Meeting {
-    begun: AtomicU64,
+    round_opened: AtomicU64,
     met: AtomicU64,
 }
 
@@ -146,9 +146,9 @@ impl Model for Guest {
 
 /// A turn begins, and waits until two have.
 fn meet(meeting: &Meeting) {
-    meeting.begun.fetch_add(1, SeqCst);
+    meeting.round_opened.fetch_add(1, SeqCst);
     for _ in 0..LOOKS {
-        if meeting.begun.load(SeqCst) >= 2 {
+        if meeting.round_opened.load(SeqCst) >= 2 {
             meeting.met.fetch_add(1, SeqCst);
             return;
         }
@@ -211,7 +211,7 @@ fn turns_are_taken_at_the_same_time(rt: HostRuntime) -> Result<(), Fail> {
     let meeting = Arc::new(
         rt.alloc(),
         Meeting {
-            begun: AtomicU64::new(0),
+            round_opened: AtomicU64::new(0),
             met: AtomicU64::new(0),
         },
     )?;

@@ -10,7 +10,7 @@ use Rattle.trex_sched.specs.declared.slot.Slot.{Slot}
 use Rattle.trex_sched.specs.Chain.{Chain, IsChain}
 use Rattle.trex_sched.specs.Entries.{entries, run_entries, share}
 use Rattle.trex_sched.specs.Runs.{later_runs, run_after, run_at, run_below}
-use Rattle.trex_sched.specs.ToCome.{rest_from}
+use Rattle.trex_sched.specs.Remaining.{rest_from}
 use Rattle.trex_sched.proofs.RunLemmas.{begins, follows, kept_none, later_step, runs_none}
 
 -- a core's part of two lists

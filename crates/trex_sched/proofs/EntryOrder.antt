@@ -12,7 +12,7 @@ use Rattle.trex_sched.specs.Chain.{Chain, IsChain}
 use Rattle.trex_sched.specs.Entries.{entries, key_of, run_entries, share, slot_of}
 use Rattle.trex_sched.specs.Runs.{run_after, run_at, runs, runs_from}
 use Rattle.trex_sched.specs.Times.{HasPackets, size, span}
-use Rattle.trex_sched.specs.ToCome.{IsReached}
+use Rattle.trex_sched.specs.Remaining.{IsReachable}
 use Rattle.trex_sched.proofs.RunLemmas.{all_get, follows, Follows, runs_none}
 use Rattle.trex_sched.proofs.Offsets.{ends_together, offset_rising, offset_spread, offset_within, run_ends}
 use Rattle.trex_sched.proofs.Pairs.{all_flat, all_kept, all_more, all_range, pairs_flat, pairs_more, pairs_range}
@@ -67,12 +67,12 @@ runs_precede chain (suc n) run =
       | Some next ↦ λ some. (all_after chain n run next (precedes_next chain run next (follows chain run next some)), runs_precede chain n next)
     ] refl
 
-pub runs_reached : (chain : Chain) (n : ℕ) (run : Run) → IsChain chain → IsReached chain run → AllByRecursion (IsReached chain) (runs_from chain n (Some run))
+pub runs_reached : (chain : Chain) (n : ℕ) (run : Run) → IsChain chain → IsReachable chain run → AllByRecursion (IsReachable chain) (runs_from chain n (Some run))
 runs_reached chain zero run is reached = tt
 runs_reached chain (suc n) run is reached = (
   reached,
-  elim (run_after chain run) as (λ o. run_after chain run ≡ o → AllByRecursion (IsReached chain) (runs_from chain n o)) [
-    | None ↦ λ none. subst (AllByRecursion (IsReached chain)) (sym (runs_none chain n)) tt
+  elim (run_after chain run) as (λ o. run_after chain run ≡ o → AllByRecursion (IsReachable chain) (runs_from chain n o)) [
+    | None ↦ λ none. subst (AllByRecursion (IsReachable chain)) (sym (runs_none chain n)) tt
     | Some next ↦ λ some. runs_reached chain n next is (reached_next chain run next is reached some)
   ] refl,
 )
@@ -86,16 +86,16 @@ all_precede chain d =
       | Some run ↦ runs_precede chain d run
     ])
 
-pub all_reached : (chain : Chain) (d : ℕ) → IsChain chain → AllByRecursion (IsReached chain) (runs chain d)
+pub all_reached : (chain : Chain) (d : ℕ) → IsChain chain → AllByRecursion (IsReachable chain) (runs chain d)
 all_reached chain d is =
-    all-filter (IsReached chain) (λ run. nat_lt run.start d) (runs_from chain d (run_at chain 0 0 0))
-    (elim (run_at chain 0 0 0) as (λ o. run_at chain 0 0 0 ≡ o → AllByRecursion (IsReached chain) (runs_from chain d o)) [
-      | None ↦ λ none. subst (AllByRecursion (IsReached chain)) (sym (runs_none chain d)) tt
+    all-filter (IsReachable chain) (λ run. nat_lt run.start d) (runs_from chain d (run_at chain 0 0 0))
+    (elim (run_at chain 0 0 0) as (λ o. run_at chain 0 0 0 ≡ o → AllByRecursion (IsReachable chain) (runs_from chain d o)) [
+      | None ↦ λ none. subst (AllByRecursion (IsReachable chain)) (sym (runs_none chain d)) tt
       | Some run ↦ λ some. runs_reached chain d run is (reached_first chain 0 run some)
     ] refl)
 
 -- a run that is reached starts before one that it precedes
-starts_before : (chain : Chain) (run later : Run) → IsChain chain → IsReached chain run → Precedes run later → run.start < later.start
+starts_before : (chain : Chain) (run later : Run) → IsChain chain → IsReachable chain run → Precedes run later → run.start < later.start
 starts_before chain run later is reached p =
     let sized = ends_together run.leg.period run.leg.mode p.lasts p.ends in
     let long = run_ends run.leg.period run.leg.mode sized.0 p.lasts (has_packets chain run is reached) sized.1 p.ends in
@@ -104,7 +104,7 @@ starts_before chain run later is reached p =
 pub starts_rise : (chain : Chain) (d : ℕ) → IsChain chain → EachPair (λ run later. run.start < later.start) (runs chain d)
 starts_rise chain d is = rise (runs chain d) (all_reached chain d is) (all_precede chain d)
   where
-    rise : (rs : List Run) → AllByRecursion (IsReached chain) rs → EachPair Precedes rs → EachPair (λ run later. run.start < later.start) rs
+    rise : (rs : List Run) → AllByRecursion (IsReachable chain) rs → EachPair Precedes rs → EachPair (λ run later. run.start < later.start) rs
     rise [] reached pairs = tt
     rise (run ∷ rs) reached pairs = (
       all_more (Precedes run) (λ later. run.start < later.start) rs (λ later p. starts_before chain run later is reached.0 p) pairs.0,
@@ -127,7 +127,7 @@ one_place (leg ∷ legs) (suc p) zero a b distinct at at' same =
 one_place (leg ∷ legs) (suc p) (suc q) a b distinct at at' same = ap suc (one_place legs p q a b distinct.1 at at' same)
 
 -- Of two runs of one stream the later is of a later visit, and of the same leg.
-later_visit : (chain : Chain) (a b : Run) → IsChain chain → IsReached chain a → IsReached chain b → Precedes a b → a.leg.stream ≡ b.leg.stream
+later_visit : (chain : Chain) (a b : Run) → IsChain chain → IsReachable chain a → IsReachable chain b → Precedes a b → a.leg.stream ≡ b.leg.stream
     → (a.visit < b.visit) × (a.leg ≡ b.leg)
 later_visit chain a b is ra rb p same =
     let place : a.place ≡ b.place = one_place chain.legs a.place b.place a.leg b.leg is.distinct ra.at_place rb.at_place same in
@@ -150,7 +150,7 @@ later_in_run d run some =
     (omega arith, λ same. omega arith)))
 
 -- a packet of a run and one of a later run
-later_run : (chain : Chain) (a b : Run) (i j d : ℕ) → IsChain chain → IsReached chain a → IsReached chain b → Precedes a b → i < unwrap_or (size a.leg) d
+later_run : (chain : Chain) (a b : Run) (i j d : ℕ) → IsChain chain → IsReachable chain a → IsReachable chain b → Precedes a b → i < unwrap_or (size a.leg) d
     → IsLater (slot_of a i) (slot_of b j)
 later_run chain a b i j d is ra rb p within =
     let sized = ends_together a.leg.period a.leg.mode p.lasts p.ends in
@@ -169,7 +169,7 @@ later_run chain a b i j d is ra rb p within =
           omega arith,
     )
 
-later_across : (chain : Chain) (d : ℕ) (a b : Run) → IsChain chain → IsReached chain a → IsReached chain b → Precedes a b
+later_across : (chain : Chain) (d : ℕ) (a b : Run) → IsChain chain → IsReachable chain a → IsReachable chain b → Precedes a b
     → AllByRecursion (λ slot. AllByRecursion (IsLater slot) (run_entries d b 0)) (run_entries d a 0)
 later_across chain d a b is ra rb p =
     all-filter (λ slot. AllByRecursion (IsLater slot) (run_entries d b 0)) (λ slot. nat_lt slot.time d) (map (slot_of a) (range_with_len 0 (unwrap_or (size a.leg) d - 0)))
@@ -181,7 +181,7 @@ later_across chain d a b is ra rb p =
 -- all packets of a chain
 pub entries_later : (chain : Chain) (d : ℕ) → IsChain chain → EachPair IsLater (entries chain d)
 entries_later chain d is =
-    pairs_flat (IsReached chain) Precedes IsLater (λ run. run_entries d run 0) (runs chain d)
+    pairs_flat (IsReachable chain) Precedes IsLater (λ run. run_entries d run 0) (runs chain d)
     (λ run reached. later_in_run d run (has_packets chain run is reached))
     (λ a b ra rb p. later_across chain d a b is ra rb p)
     (all_reached chain d is) (all_precede chain d)
@@ -200,9 +200,9 @@ pub entries_shares : (chain : Chain) (core cores d : ℕ) → IsChain chain → 
 entries_shares chain core cores d is = pairs-filter (ComesBefore key_of) (λ slot. slot.number % cores == core) (entries chain d) (entries_rising chain d is)
 
 -- of each packet of each run
-each_entry : (chain : Chain) (d : ℕ) (P : Slot → Type 0) → IsChain chain → ((run : Run) (k : ℕ) → IsReached chain run → P (slot_of run k)) → AllByRecursion P (entries chain d)
+each_entry : (chain : Chain) (d : ℕ) (P : Slot → Type 0) → IsChain chain → ((run : Run) (k : ℕ) → IsReachable chain run → P (slot_of run k)) → AllByRecursion P (entries chain d)
 each_entry chain d P is each =
-    all_flat (IsReached chain) P (λ run. run_entries d run 0) (runs chain d)
+    all_flat (IsReachable chain) P (λ run. run_entries d run 0) (runs chain d)
     (λ run reached. all-filter P (λ slot. nat_lt slot.time d) (map (slot_of run) (range_with_len 0 (unwrap_or (size run.leg) d - 0)))
     (all_range P (slot_of run) 0 (unwrap_or (size run.leg) d - 0) (λ k low high. each run k reached)))
     (all_reached chain d is)

@@ -2,7 +2,7 @@ use Rattle.std.proofs.Common.{◌<◌, ◌∷◌, length, sym, ◌∙◌, subst,
 use Rattle.std.specs.BinaryHeap.{heap_items}
 use Rattle.std.specs.List.Sorted.{IsPermutation}
 use Rattle.trex_sched.proofs.Heads.{no_head_known, put_back_known}
-use Rattle.trex_sched.proofs.walks.pass.Goals as goal
+use Rattle.trex_sched.proofs.walks.take_next.Goals as goal
 
 pub returns-in-Some-clause-known : goal.returns-in-Some-clause-known
 returns-in-Some-clause-known c =
