@@ -12,3 +12,4 @@ mod Restarts
 mod Accepted
 pub mod RuleLemmas
 mod FlowNumbers
+pub mod FlowLemmas

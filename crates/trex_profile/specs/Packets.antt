@@ -1,14 +1,16 @@
 -- The packets of a stream (own).
-use Rattle.std.specs.Prelude.{◌≡◌, ℕ, ◌%◌, ◌^◌, Bool, List, ◌++◌, map, Option, option_map, IfSome, if◌then◌else◌}
+use Rattle.std.specs.Prelude.{◌≡◌, ℕ, Bool, List, ◌++◌, map, Option, option_map, IfSome, if◌then◌else◌}
 use Rattle.std.specs.List.{filter_map, zip}
 use Rattle.trex_layers.specs.Layers.{parsed}
 use Rattle.trex_stamp.specs.declared.header.Stamp.{Stamp}
+use Rattle.trex_stamp.specs.declared.header.Version.{Version}
 use Rattle.trex_stamp.specs.Stamp.{stamp_bytes}
 use Rattle.trex_vars.specs.Variable.{Variable}
 use Rattle.trex_vars.specs.Value.{value_at}
 use Rattle.trex_vars.specs.declared.value.VarValue.{VarValue}
 use Rattle.trex_vm.specs.declared.instr.Instr.{Instr}
 use Rattle.trex_vm.specs.Packet.{packet}
+use Rattle.trex_profile.specs.Flow.{stamp_with}
 use Rattle.trex_profile.specs.Stream.{Stream}
 use Rattle.trex_profile.specs.Steps.{variables_from, restart_of, steps_of, program_of}
 
@@ -36,9 +38,13 @@ values_of s number place = values_at (variables s) (restarts s) number place
 abbrev pub program : Stream → List Instr
 program s = program_of (steps_of (parsed s.template) s.instrs)
 
+-- the version of a stream's latency headers, where it has a flow
+abbrev pub stamp_version : Stream → Option Version
+stamp_version s = option_map (λ flow. flow.version) s.flow
+
 -- the latency header of the packet of a number at an absolute time in nanoseconds, where the stream has a flow
 abbrev pub stamp_at : Stream → ℕ → ℕ → Option Stamp
-stamp_at s number time = option_map (λ flow. record { flow = flow; sequence = number % 2 ^ 32; time = time }) s.flow
+stamp_at s number time = option_map (λ flow. stamp_with flow number time) s.flow
 
 -- the packet of a number, at a place in its run and an absolute time in nanoseconds
 abbrev pub packet_of : Stream → ℕ → ℕ → ℕ → List ℕ

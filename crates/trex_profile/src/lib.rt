@@ -4,6 +4,7 @@
 mod admission;
 mod chains;
 mod fault;
+mod flow;
 mod instructions;
 mod laws;
 mod member;
@@ -14,8 +15,9 @@ mod refusal;
 mod rule;
 mod rules;
 
-pub use admission::{AdmitFault, admit};
-pub use fault::StreamFault;
+pub use admission::admit;
+pub use fault::{AdmitFault, Fault, StreamFault};
+pub use flow::Flow;
 pub use laws::{profiles_can_be_walked, value_rules_in_order};
 pub use member::StreamSpec;
 pub use name::Name;

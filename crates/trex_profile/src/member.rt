@@ -6,6 +6,7 @@ ghost use Rattle.trex_sched.specs.Times.{period_of};
 ghost use Rattle.trex_profile.specs.Rules.{numerator_of};
 
 use crate::fault::StreamFault;
+use crate::flow::{Flow, version_of};
 use crate::instructions::program::{parts_of, program_for};
 use crate::raw::{RawInstr, RawRate, RawStream};
 use crate::rules::times::period_of;
@@ -27,8 +28,8 @@ pub struct StreamSpec {
     pub restart: Vec<bool>,
     /// The other instructions.
     pub program: Program,
-    /// The flow number of the latency headers, where the packets have them.
-    pub flow: Option<u16>,
+    /// The flow of the packets, where they end in latency headers.
+    pub flow: Option<Flow>,
     pub ghost paired: { vec_len restart ≡ vec_len vars },
     pub ghost at_least: { SHORTEST_PACKET ≤ vec_len template },
     pub ghost at_most: { vec_len template ≤ LONGEST_PACKET },
@@ -76,7 +77,7 @@ impl Member {
             &parts.vars,
             &parts.steps,
             &raw.template,
-            raw.flow.is_some(),
+            version_of(raw.flow),
         )?;
         // An accepted program is meant for its template and for the values of its variables.
         programs_fit();

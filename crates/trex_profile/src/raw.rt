@@ -1,5 +1,6 @@
 // What a profile says before its values are looked at.
 
+use crate::flow::Flow;
 use crate::name::Name;
 use trex_sched::Mode;
 use trex_vars::Op;
@@ -28,8 +29,8 @@ pub struct RawStream {
     pub template: Vec<u8>,
     pub rate: RawRate,
     pub mode: Mode,
-    /// The flow number of the latency headers, where the stream has them.
-    pub flow: Option<u16>,
+    /// The flow of the packets, where they end in latency headers.
+    pub flow: Option<Flow>,
     /// At most 256.
     pub instrs: Vec<RawInstr>,
 }

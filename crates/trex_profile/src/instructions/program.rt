@@ -21,6 +21,7 @@ use crate::rules::lengths::length_breach;
 use crate::rules::places::place_breach;
 use std::alloc::Global;
 use trex_layers::{LONGEST_PACKET, Layers, SHORTEST_PACKET};
+use trex_stamp::Version;
 use trex_vars::VarSpec;
 use trex_vm::{Program, least_length, room_of};
 
@@ -74,7 +75,7 @@ pub(crate) fn program_for(
     vars: &[VarSpec],
     steps: &[Step],
     template: &[u8],
-    stamped: bool,
+    stamp: Option<Version>,
 ) -> Result<Program, StreamFault>
     requires few { length steps.now ≤ 256 }
     requires long { SHORTEST_PACKET ≤ length template.now }
@@ -82,17 +83,17 @@ pub(crate) fn program_for(
     requires sound { AreSound (map variable_of vars.now) }
     requires operands { AreOperandsOf (map variable_of vars.now) (program_of steps.now) }
     requires each { All (λ step. All (TakesFrom (length vars.now)) (instrs_of step)) steps.now }
-    ensures value { Gives (λ program. program) result (unless (does_rules (map variable_of vars.now) template.now stamped steps.now)
-        (program_view (program_of steps.now) (map variable_of vars.now) template.now stamped)) }
-    ensures accepts { IfOk result (λ _. accepts (map variable_of vars.now) template.now stamped (program_of steps.now) ≡ true) }
+    ensures value { Gives (λ program. program) result (unless (does_rules (map variable_of vars.now) template.now stamp steps.now)
+        (program_view (program_of steps.now) (map variable_of vars.now) template.now stamp)) }
+    ensures accepts { IfOk result (λ _. accepts (map variable_of vars.now) template.now stamp (program_of steps.now) ≡ true) }
 {
     let instrs = program_of(alloc, steps)?;
-    if let Some(breach) = length_breach(vars, template.len(), stamped, steps, &instrs) {
-        return Err(StreamFault::Broken(breach));
+    if let Some(breach) = length_breach(vars, template.len(), stamp, steps, &instrs) {
+        return Err(StreamFault::Refused(breach));
     }
-    let room = room_of(least_length(vars, &instrs, template.len()), stamped);
+    let room = room_of(least_length(vars, &instrs, template.len()), stamp);
     if let Some(breach) = place_breach(template, room, steps, &instrs) {
-        return Err(StreamFault::Broken(breach));
+        return Err(StreamFault::Refused(breach));
     }
-    Ok(Program::of_accepted(instrs, vars, template, stamped))
+    Ok(Program::of_accepted(instrs, vars, template, stamp))
 }

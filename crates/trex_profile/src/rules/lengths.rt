@@ -11,9 +11,9 @@ ghost use Rattle.trex_profile.specs.Steps.{instrs_of, program_of};
 use crate::instructions::steps::Step;
 use crate::refusal::Breach;
 use crate::rule::Rule;
-use trex_stamp::SHORTEST_STAMPED;
+use trex_stamp::Version;
 use trex_vars::VarSpec;
-use trex_vm::{Instr, is_trim, least_length, trim_wrong};
+use trex_vm::{Instr, is_trim, least_length, no_room_for_stamp, trim_wrong};
 
 /// Whether a step is a trim.
 fn cuts(step: &Step) -> bool
@@ -74,7 +74,7 @@ fn wrong_trim(vars: &[VarSpec], template: usize, steps: &[Step]) -> Option<Breac
 pub(crate) fn length_breach(
     vars: &[VarSpec],
     template: usize,
-    stamped: bool,
+    stamp: Option<Version>,
     steps: &[Step],
     program: &[Instr],
 ) -> Option<Breach>
@@ -83,7 +83,7 @@ pub(crate) fn length_breach(
     requires all_operands { All (TakesFrom (length vars.now)) program.now }
     requires sound { AreSound (map variable_of vars.now) }
     requires program { program.now ≡ program_of steps.now }
-    ensures { result ≡ length_rules (map variable_of vars.now) template stamped steps.now }
+    ensures { result ≡ length_rules (map variable_of vars.now) template stamp steps.now }
 {
     if let Some(breach) = second_trim(steps) {
         return Some(breach);
@@ -91,7 +91,7 @@ pub(crate) fn length_breach(
     if let Some(breach) = wrong_trim(vars, template, steps) {
         return Some(breach);
     }
-    if stamped && least_length(vars, program, template) < SHORTEST_STAMPED {
+    if no_room_for_stamp(least_length(vars, program, template), stamp) {
         return Some(Breach::of_stream(Rule::NoRoomForStamp));
     }
     None
