@@ -5,7 +5,9 @@ use Rattle.std.proofs.lemmas.List.{length-map, map_push, take_more}
 use Rattle.std.proofs.lemmas.Option.{slice_get-get_or, slice_get_within}
 use Rattle.trex_core.specs.Plan.{packet_bytes}
 use Rattle.trex_profile.specs.declared.member.StreamSpec.{StreamSpec}
-use Rattle.trex_profile.specs.Packets.{packet_of, program, stamp_at, stamp_with, values_of}
+use Rattle.trex_profile.specs.Packets.{packet_of, program, stamp_at, values_of}
+use Rattle.trex_profile.specs.declared.flow.Flow.{Flow}
+use Rattle.trex_profile.specs.Flow.{stamp_with}
 use Rattle.trex_profile.specs.Spec.{IsSpecOf}
 use Rattle.trex_profile.specs.Stream.{Stream}
 use Rattle.trex_sched.specs.declared.slot.Slot.{Slot}
@@ -33,7 +35,7 @@ unfolding packet_bytes
 packet_is p base slot s spec values stamp template time there is read due header bytes =
     let instrs : spec.program.instrs ≡ program s = ap (λ (view : ProgramView). view.instrs) is.plan in
     let stamped : stamp ≡ stamp_at s slot.number (base * 10 ^ 9 + slot.time) =
-    header ∙ ap (option_map (λ flow. stamp_with flow slot.number time)) is.flow ∙ ap (stamp_at s slot.number) due in
+    header ∙ ap (option_map (λ (flow : Flow). stamp_with flow slot.number time)) is.flow ∙ ap (stamp_at s slot.number) due in
     ap (λ (is : List Instr). packet is values stamp template) instrs
     ∙ ap (λ (vs : List VarValue). packet (program s) vs stamp template) read
     ∙ ap (λ (h : Option Stamp). packet (program s) (values_of s slot.number slot.in_run) h template) stamped

@@ -5,7 +5,8 @@ use Rattle.std.proofs.lemmas.List.Elements.{All-get_or}
 use Rattle.std.specs.List.{AllByRecursion}
 use Rattle.trex_core.specs.declared.registers.Move.{Move}
 use Rattle.trex_core.specs.declared.registers.Register.{Register}
-use Rattle.trex_core.specs.Registers.{IsAt, end_of, index_of, moved, restarts_of, shown, values_at, variables_of}
+use Rattle.trex_core.specs.Registers.{IsAt, end_of, moved, restarts_of, shown, variables_of}
+use Rattle.trex_profile.specs.Packets.{index_of, values_at}
 use Rattle.trex_vars.specs.Check.{fault_of}
 use Rattle.trex_vars.specs.declared.spec.VarSpec.{VarSpec}
 use Rattle.trex_vars.specs.declared.value.VarValue.{VarValue}

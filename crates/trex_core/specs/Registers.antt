@@ -1,22 +1,13 @@
 -- Where a core stands among the values of a stream's variables. Own.
 use Rattle.std.specs.Prelude.{◌≡◌, ℕ, ◌+◌, ◌<◌, ◌^◌, Bool, if◌then◌else◌, List, map}
 use Rattle.std.specs.List.{AllByRecursion}
-use Rattle.std.specs.Simd.Lanes.{zip2}
 use Rattle.trex_vars.specs.declared.value.VarValue.{VarValue}
 use Rattle.trex_vars.specs.Value.{value_at}
 use Rattle.trex_vars.specs.Variable.{Variable}
+use Rattle.trex_profile.specs.Packets.{index_of, values_at}
 use Rattle.trex_core.specs.declared.registers.Move.{Move}
 use Rattle.trex_core.specs.declared.registers.Move.TheVariants.{Stay, Step, Seek}
 use Rattle.trex_core.specs.declared.registers.Register.{Register}
-
--- what a variable's value goes by: the packet's place in its run where the variable restarts at each visit, else the packet's number
-abbrev pub index_of : Bool → ℕ → ℕ → ℕ
-index_of restarts number place = if restarts then place else number
-
--- the values of some variables, of which it is told whether each restarts, at the packet of a number and a place
-abbrev pub values_at : List Variable → List Bool → ℕ → ℕ → List VarValue
-values_at variables restarts number place =
-    zip2 (λ variable restarting. value_at variable (index_of restarting number place)) variables restarts
 
 -- some variables, whether each restarts, of how many cores one reads their values, and the packet whose values it reads
 pub record Standing : Type 0 where
@@ -26,7 +17,7 @@ pub record Standing : Type 0 where
   pub number : ℕ
   pub place : ℕ
 
--- the values that the registers of these variables show at a packet
+-- the values that the registers of these variables show in the packet of a number, at a place in its run
 abbrev pub values_by : Standing → ℕ → ℕ → List VarValue
 values_by standing number place = values_at standing.variables standing.restarts number place
 

@@ -1,18 +1,21 @@
 // The making of a core's packets.
 
 ghost use Rattle.std.specs.Prelude.{◌≡◌, ◌<◌, ◌≤◌, ◌^◌, IfOk, IsSomeAnd, length, map, slice_get, take};
-ghost use Rattle.std.specs.Option.{option_map};
+ghost use Rattle.std.specs.Option.{ForSome, option_map};
 ghost use Rattle.trex_core.specs.Plan.{IsSlotOf, packet_bytes};
 ghost use Rattle.trex_core.specs.Registers.{values_by};
+ghost use Rattle.trex_profile.specs.Flow.{IsFlow, sequence_of, stamp_with};
 ghost use Rattle.trex_profile.specs.Packets.{values_of};
+ghost use Rattle.trex_stamp.specs.Stamp.{IsStamp, sequence_size};
 
 use crate::plan::Plan;
 use crate::registers::Registers;
 use std::alloc::Global;
 use std::marker::Model;
 use trex_io::Memory;
+use trex_profile::Flow;
 use trex_sched::Slot;
-use trex_stamp::Stamp;
+use trex_stamp::{Stamp, Version};
 use trex_vars::VarValue;
 use trex_vm::run_plain;
 
@@ -122,13 +125,27 @@ fn write_packet(plan: &Plan<'_>, slot: &Slot, values: &[VarValue], scratch: &mut
 }
 
 /// The latency header of a packet, if its stream has a flow.
-fn stamp_of(flow: Option<u16>, number: u64, time: u64) -> Option<Stamp>
-    ensures { result ≡ option_map (λ flow. record { flow = flow; sequence = number % 2 ^ 32; time = time }) flow }
+fn stamp_of(flow: Option<Flow>, number: u64, time: u64) -> Option<Stamp>
+    requires { ForSome flow IsFlow }
+    ensures value { result ≡ option_map (λ flow. stamp_with flow number time) flow }
+    ensures fits { ForSome result IsStamp }
 {
     let flow = flow?;
     Some(Stamp {
-        flow,
-        sequence: (number % (1 << 32)) as u32,
+        version: flow.version,
+        flow: flow.number,
+        sequence: sequence_of(flow.version, number),
         time,
     })
+}
+
+/// The sequence of a packet in the headers of a version. Version 1 has room for 32 bits of the packet's number.
+fn sequence_of(version: Version, number: u64) -> u64
+    ensures value { result ≡ sequence_of version number }
+    ensures fits { result < 256 ^ sequence_size version }
+{
+    match version {
+        Version::One => number % (1 << 32),
+        Version::Two => number,
+    }
 }

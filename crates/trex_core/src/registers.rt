@@ -113,7 +113,7 @@ impl<'p> Model for Registers<'p> {
 
 impl<'p> Registers<'p> {
     ghost use Rattle.std.specs.Prelude.{◌≡◌, ◌<◌, ◌≤◌, ◌^◌, IfOk, length, map};
-    ghost use Rattle.trex_core.specs.Registers.{values_at};
+    ghost use Rattle.trex_core.specs.Registers.{values_by};
     ghost use Rattle.trex_vars.specs.Variable.{variable_of};
     ghost use Rattle.trex_vm.specs.Program.{AreSound};
 
@@ -167,7 +167,7 @@ impl<'p> Registers<'p> {
 
     /// The values at the packet at which the registers stand.
     pub(crate) fn values(&self) -> &[VarValue]
-        ensures { result.now ≡ values_at self.now.variables self.now.restarts self.now.number self.now.place }
+        ensures { result.now ≡ values_by self.now self.now.number self.now.place }
     {
         &self.values
     }

@@ -23,4 +23,10 @@ returns-clause-packet c =
     let read = at_stream p slot.stream s.0 (λ s. c.args.values.now ≡ values_of s slot.number slot.in_run) s.1 c.requires.values in
     c.run_plain.ensures.packet
     ∙ packet_is p c.args.plan.now.base slot s.0 spec c.args.values.now c.stamp_of-stamp.result c.deref.result.now c.time_of.result
-    s.1 s.2 read c.time_of.ensures c.stamp_of-stamp.ensures c.deref.ensures.value
+    s.1 s.2 read c.time_of.ensures c.stamp_of-stamp.ensures.value c.deref.ensures.value
+
+pub run_plain-requires-clause-stamp : goal.run_plain-requires-clause-stamp
+run_plain-requires-clause-stamp c = ?
+
+pub stamp_of-stamp-requires : goal.stamp_of-stamp-requires
+stamp_of-stamp-requires c = ?
