@@ -4,7 +4,7 @@ ghost use Rattle.std.specs.Prelude.{◌≡◌, ◌-◌, ◌^◌, None, Some, IfS
 ghost use Rattle.std.specs.Option.{ForSome};
 ghost use Rattle.serde_json.specs.View.{view};
 ghost use Rattle.trex_stamp.specs.Stamp.{flow_size};
-ghost use Rattle.trex_profile.specs.Stream.{IsFlow};
+ghost use Rattle.trex_profile.specs.Flow.{IsFlow};
 ghost use Rattle.trex_json.specs.Shape.{flow, flow_names_wrong, flow_of, flow_wrong};
 
 use crate::kinds::an_object;
@@ -25,13 +25,13 @@ fn greatest_flow(version: Version) -> u64
 
 /// The version and the number of a flow, where its names are of their kinds.
 #[tactic(auto, unfolding(crate::specs::Shape::flow_names_wrong))]
-fn flow(flow: &Value) -> Option<Flow>
-    ensures value { result ≡ (if flow_names_wrong (view flow.now) then None else Some (flow (view flow.now))) }
+fn flow(flow_stats: &Value) -> Option<Flow>
+    ensures value { result ≡ (if flow_names_wrong (view flow_stats.now) then None else Some (flow (view flow_stats.now))) }
     ensures range { IfSome result IsFlow }
 {
-    let _latency = latency_field(flow, "rule_type")?;
-    let version = version_field(flow, "version")?;
-    let number = whole_field(flow, "stream_id", greatest_flow(version), None)?;
+    let _latency = latency_field(flow_stats, "rule_type")?;
+    let version = version_field(flow_stats, "version")?;
+    let number = whole_field(flow_stats, "stream_id", greatest_flow(version), None)?;
     Some(Flow {
         version,
         number: number as u32,

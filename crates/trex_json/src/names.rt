@@ -5,7 +5,6 @@ ghost use Rattle.std.specs.Option.{ForSome};
 ghost use Rattle.serde_json.specs.View.{view};
 ghost use Rattle.serde_json.specs.Find.{as_bool, as_str};
 ghost use Rattle.trex_fields.specs.Bytes.{IsSize};
-ghost use Rattle.trex_stamp.specs.declared.header.Version.{Version};
 ghost use Rattle.trex_json.specs.Kinds.{an_object, an_array, whole, scaled, decimal, next_id, mode_word, rate_kind, latency_word, a_version, a_size, l4_code, a_signed, a_shift, an_op, instr_word, layer_word, a_mac, an_address};
 ghost use Rattle.trex_json.specs.Names.{field, under};
 
