@@ -111,14 +111,12 @@ module _ {T : Type 0} (core turns : T → ℕ) (stem : T → List (List ℕ)) (s
           let off : swapped.0.round.running ≡ false = ap (λ (m : Me (Option T) View). m.0.round.running) swapped_is ∙ closed_off me.0.round.running me.0 refl in
           last_step slots id swapped c slot (subst IsFirst (sym role) is_first) off below (ap (λ (m : Me (Option T) View). m.1) swapped_is) its_core
 
-    -- what the exchange finds
-    pub found_is : (result : Option T) → took.1 ≡ (c, result) ∷ rest took.1 → IsFull (state_at me.0 c).slot
-        → (piece : T) × (result ≡ Some piece) × IsPiece core turns stem settled c t 0 piece
-    found_is result is full =
-        let known = full_fits t.slot c t r.slot (subst IsFull (sym (closed_slot me.0.round.running me.0 c)) full) r.fits in
+    -- the exchange finds what was in the slot
+    pub found_is : (result : Option T) → took.1 ≡ (c, result) ∷ rest took.1 → FitsAs core turns stem settled t.slot c t result
+    found_is result is =
         let held = ap (λ (m : Me (Option T) View). m.1) taken_is in
         let same : result ≡ r.slot = ap (slot_of {S = T}) (sym is ∙ held) in
-        (known.0, same ∙ known.1, known.2)
+        subst (λ slot. FitsAs core turns stem settled t.slot c t slot) (sym same) r.fits
 
   -- the piece may be put back, where the slot was taken
   pub puts_taken : (slots id : ℕ) (me swapped : Me (Option T) View) (c : ℕ) (piece : T) → me.0.claim ≡ c ∷ [] → c < slots → me.1 ≡ (c, None) ∷ []

@@ -16,7 +16,7 @@ use Rattle.trex_claims.specs.Board.{OpenDraws, DrawsHold, IsPiece, SlotHolds, Bo
 use Rattle.trex_claims.specs.Moves.{vacant, state_at, after_put, PutBack}
 use Rattle.trex_claims.proofs.TotalLemmas.{total_set, part, place_of, once_here, not_here, times_append, at_most_one}
 use Rattle.trex_claims.proofs.Seats.{knows, leads_on}
-use Rattle.trex_claims.proofs.Unchanged.{full_not_empty, claiming_unspent, open_draws, untouched, holds_for}
+use Rattle.trex_claims.proofs.Unchanged.{full_not_empty, claiming_unspent, open_draws, draws_on, untouched, holds_for}
 
 -- a core is claimed in an open round alone
 claimed_open : (b : Bool) (r : Round) (saw_none : Bool) (seats_out word : ℕ) (views : List View) (id : ℕ) (v : View) (c : ℕ) → r.running ≡ b → DrawsHold b r saw_none seats_out word views
@@ -83,21 +83,9 @@ module _ {T : Type 0} (core turns : T → ℕ) (stem : T → List (List ℕ)) (s
         let drawn_same : total drawn (set s.views id w) ≡ total drawn s.views = let t = total_set drawn s.views id v w at in omega arith in
         let empty_same : total empty_draws (set s.views id w) ≡ total empty_draws s.views = let t = total_set empty_draws s.views id v w at in omega arith in
         let left_same : total empty_draws_left (set s.views id w) ≡ total empty_draws_left s.views = let t = total_set empty_draws_left s.views id v w at in omega arith in
-        let b = d.counted in
-        let f = d.few_empty_draws in
-        let g = d.few_drawn in
-        record {
-          base = d.base;
-          counted = omega arith;
-          few_empty_draws = omega arith;
-          few_drawn = omega arith;
-          past = d.past;
-          full = d.full;
-          once = λ x h. let o = d.once x h in let p = held_less x in let q = done_more x in
-              let same : total (held x) (set s.views id w) + total (done x) (set s.views id w) ≡ total (held x) s.views + total (done x) s.views = omega arith in
-              same ∙ o;
-          no_other = λ x h. let o = d.no_other x h in let p = held_less x in let q = done_more x in omega arith;
-        }
+        let same : (x : ℕ) → total (held x) (set s.views id w) + total (done x) (set s.views id w) ≡ total (held x) s.views + total (done x) s.views =
+        λ x. let p = held_less x in let q = done_more x in omega arith in
+        draws_on r first_saw_none (get_or s.words 0 0) s.views (set s.views id w) drawn_same empty_same (omega arith) same d
 
     holds : (x : ℕ) (t : CoreState) → get_elem? r.cores x ≡ some t
         → SlotHolds core turns stem settled r x t (total (held x) (set s.views id w)) (total (done x) (set s.views id w)) (get_or next (x + 1) 0) (get_elem? (set s.homes c (some (Some piece))) x)

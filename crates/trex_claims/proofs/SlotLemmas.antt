@@ -127,3 +127,7 @@ slot_after puts c (suc i) (t ∷ ts) = slot_after puts (c + 1) i ts
 pub closed_slot : (b : Bool) (v : View) (c : ℕ) → (state_at (round_closed_if b v) c).slot ≡ (state_at v c).slot
 closed_slot true v c = slot_after v.done 0 c v.round.cores
 closed_slot false v c = refl
+
+-- a full slot is full after the end of a round too
+pub still_full : (v : View) (c : ℕ) → IsFull (state_at v c).slot → IsFull (state_at (round_closed v) c).slot
+still_full v c full = subst IsFull (sym (closed_slot v.round.running v c)) full

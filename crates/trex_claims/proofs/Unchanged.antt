@@ -34,6 +34,25 @@ open_draws r saw_none seats_out word views running d = subst (λ b. DrawsHold b 
 pub closed_draws : (r : Round) (saw_none : Bool) (seats_out word : ℕ) (views : List View) → r.running ≡ false → DrawsHold r.running r saw_none seats_out word views → ClosedDraws r seats_out word views
 closed_draws r saw_none seats_out word views off d = subst (λ b. DrawsHold b r saw_none seats_out word views) off d
 
+-- views with the same sums, of whom no more may draw past the last core
+pub draws_on : (r : Round) (saw_none : Bool) (word : ℕ) (views views' : List View) → total drawn views' ≡ total drawn views → total empty_draws views' ≡ total empty_draws views
+    → total empty_draws_left views' ≤ total empty_draws_left views → ((x : ℕ) → total (held x) views' + total (done x) views' ≡ total (held x) views + total (done x) views)
+    → OpenDraws r saw_none word views → OpenDraws r saw_none word views'
+draws_on r saw_none word views views' same_drawn same_empty less same d =
+    let b = d.counted in
+    let f = d.few_empty_draws in
+    let g = d.few_drawn in
+    record {
+      base = d.base;
+      counted = omega arith;
+      few_empty_draws = omega arith;
+      few_drawn = omega arith;
+      past = d.past;
+      full = d.full;
+      once = λ x h. same x ∙ d.once x h;
+      no_other = λ x h. same x ∙ d.no_other x h;
+    }
+
 module _ {T : Type 0} (core turns : T → ℕ) (stem : T → List (List ℕ)) (settled : T → Type 0) where
   pub untouched : (r : Round) (c : ℕ) (t : CoreState) (claims puts word : ℕ) (home : maybe.Option (maybe.Option (Option T))) (claims' puts' word' : ℕ) (home' : maybe.Option (maybe.Option (Option T)))
       → claims' ≡ claims → puts' ≡ puts → word' ≡ word → home' ≡ home
@@ -63,20 +82,9 @@ module _ {T : Type 0} (core turns : T → ℕ) (stem : T → List (List ℕ)) (s
       → BoardHolds core turns stem settled r saw_none seats_out s → BoardHolds core turns stem settled r saw_none seats_out' (record { words = s.words; homes = s.homes; views = views })
   viewed r saw_none seats_out seats_out' s views running same_drawn same_empty less same_held same_done k =
       let d = open_draws r saw_none seats_out (get_or s.words 0 0) s.views running k.draws in
-      let now : OpenDraws r saw_none (get_or s.words 0 0) views =
-      let b = d.counted in
-      let f = d.few_empty_draws in
-      let g = d.few_drawn in
-      record {
-        base = d.base;
-        counted = omega arith;
-        few_empty_draws = omega arith;
-        few_drawn = omega arith;
-        past = d.past;
-        full = d.full;
-        once = λ x h. let p = same_held x in let q = same_done x in ap (λ n. n + total (done x) views) p ∙ ap (λ n. total (held x) s.views + n) q ∙ d.once x h;
-        no_other = λ x h. let p = same_held x in let q = same_done x in ap (λ n. n + total (done x) views) p ∙ ap (λ n. total (held x) s.views + n) q ∙ d.no_other x h;
-      } in
+      let same : (x : ℕ) → total (held x) views + total (done x) views ≡ total (held x) s.views + total (done x) s.views =
+      λ x. let p = same_held x in let q = same_done x in omega arith in
+      let now = draws_on r saw_none (get_or s.words 0 0) s.views views same_drawn same_empty less same d in
       record {
         words = k.words;
         homes = k.homes;

@@ -1,10 +1,12 @@
 -- What a seat knows after each of its steps. Own.
 use Rattle.std.specs.Prelude.{◌≡◌, ℕ, zero, suc, ◌+◌, ◌-◌, ◌<◌, ◌≤◌, ◌^◌, List, [], ◌∷◌, ◌++◌, length, replicate, slice_set, slice_index_or, Bool, true, false, Option, None, Some}
 use Rattle.atomic_table.specs.Table.{Me, rest}
+use Rattle.trex_claims.specs.declared.view.Role.{Role}
 use Rattle.trex_claims.specs.declared.view.Role.TheVariants.{First, Other}
 use Rattle.trex_claims.specs.declared.view.SlotState.{SlotState}
 use Rattle.trex_claims.specs.declared.view.SlotState.TheVariants.{Empty, Out, Full}
 use Rattle.trex_claims.specs.declared.view.CoreState.{CoreState}
+use Rattle.trex_claims.specs.declared.view.Round.{Round}
 use Rattle.trex_claims.specs.declared.view.View.{View}
 use Rattle.trex_claims.specs.Views.{times, no_round}
 use Rattle.trex_claims.specs.Board.{IsPiece, below}
@@ -13,9 +15,13 @@ use Rattle.trex_claims.specs.Board.{IsPiece, below}
 abbrev pub vacant : CoreState
 vacant = record { slot = Empty; turns = 0; stem = []; settled = false; puts_before = 0 }
 
+-- a seat that drew nothing yet, and off which so many seats may be split
+abbrev pub fresh_view : Role → Round → ℕ → View
+fresh_view role round seats = record { role = role; round = round; claim = []; done = []; saw_none = false; empty_draws = 0; seats_left = seats; seats_out = 0 }
+
 -- the first seat of a new board
 abbrev pub opening_view : ℕ → View
-opening_view cores = record { role = First; round = no_round (replicate cores vacant); claim = []; done = []; saw_none = false; empty_draws = 0; seats_left = 0; seats_out = 0 }
+opening_view cores = fresh_view First (no_round (replicate cores vacant)) 0
 
 -- what is known of a core
 abbrev pub state_at : View → ℕ → CoreState
@@ -27,16 +33,7 @@ HoldsNone me = (me.0.claim ≡ []) × (me.1 ≡ [])
 
 -- a round opens at the number found in the draw word
 abbrev pub round_opened : View → ℕ → View
-round_opened v found = record {
-  role = v.role;
-  round = record { running = true; base = found; rounds = v.round.rounds + 1; cores = v.round.cores };
-  claim = [];
-  done = [];
-  saw_none = false;
-  empty_draws = 0;
-  seats_left = 64;
-  seats_out = 0;
-}
+round_opened v found = fresh_view v.role (record { running = true; base = found; rounds = v.round.rounds + 1; cores = v.round.cores }) 64
 
 -- the seat draws the number of a core, and claims it
 abbrev pub after_claim : View → ℕ → View
@@ -52,7 +49,7 @@ after_split v = record v { seats_left = v.seats_left - 1; seats_out = v.seats_ou
 
 -- the seat that is split off
 abbrev pub split_seat : View → View
-split_seat v = record { role = Other; round = v.round; claim = []; done = []; saw_none = false; empty_draws = 0; seats_left = 0; seats_out = 0 }
+split_seat v = fresh_view Other v.round 0
 
 -- another seat is joined to it
 abbrev pub after_join : View → View → View
@@ -75,16 +72,7 @@ cores_after done core (t ∷ ts) = turned_by (times core done) t ∷ cores_after
 -- the round ends, where it is said to be open
 abbrev pub round_closed_if : Bool → View → View
 round_closed_if false v = v
-round_closed_if true v = record {
-  role = v.role;
-  round = record { running = false; base = v.round.base; rounds = v.round.rounds; cores = cores_after v.done 0 v.round.cores };
-  claim = [];
-  done = [];
-  saw_none = false;
-  empty_draws = 0;
-  seats_left = 0;
-  seats_out = 0;
-}
+round_closed_if true v = fresh_view v.role (record { running = false; base = v.round.base; rounds = v.round.rounds; cores = cores_after v.done 0 v.round.cores }) 0
 
 -- the round ends, where one is open
 abbrev pub round_closed : View → View

@@ -2,14 +2,14 @@
 // sees None: a draw claims a core, whose piece the seat takes, turns, and puts back. Then the other seats are joined to the first, which
 // fetches the pieces; the first fetch ends the round.
 
-ghost use Rattle.std.specs.Prelude.{◌≡◌, ℕ, ◌+◌, ◌<◌, ◌≤◌, ◌^◌, [], ◌∷◌, true, false, Some, None, IsOk, IfOk, IfSome, IfNone, MatchOption, length};
+ghost use Rattle.std.specs.Prelude.{◌≡◌, ◌⊎◌, ℕ, ◌+◌, ◌<◌, ◌≤◌, ◌^◌, [], ◌∷◌, true, false, Some, None, IsOk, IfOk, IfSome, IfNone, MatchOption, length};
 ghost use Rattle.trex_claims.specs.Views.{IsFirst, IsOther, IsFull, IsEmpty, times};
 ghost use Rattle.trex_claims.specs.Board.{IsPiece, below};
-ghost use Rattle.trex_claims.specs.Moves.{opening_view, round_opened, after_split, split_seat, after_join, after_empty_draw, after_put, round_closed, with_core, filled, emptied, state_at, HoldsNone, DrewCore};
+ghost use Rattle.trex_claims.specs.Moves.{opening_view, round_opened, after_split, split_seat, after_join, after_empty_draw, after_put, round_closed, with_core, filled, emptied, state_at, with_slot, FitsAs, HoldsNone, DrewCore};
 
 use crate::claim::Claim;
 use crate::piece::Piece;
-use crate::rule::{Begin, SplitAndJoin, Draw, BoardRule, PutBackCore, TakeSlot, ReturnSlot};
+use crate::rule::{Begin, BoardRule, Draw, PutBackCore, ReturnSlot, SplitAndJoin, TakeSlot};
 use crate::view::View;
 use atomic_table::Table;
 use std::alloc::Global;
@@ -162,10 +162,8 @@ impl<T: Piece> Board<T> {
           [],
         ) }
     {
-        let core = piece.core() as usize;
-        self.table.shared.load::<TakeSlot<T>>(seat, core + 1);
-        self.table.shared.exchange(seat, core, Some(piece));
-        self.table.shared.load::<ReturnSlot<T>>(seat, core + 1);
+        let core = piece.core();
+        self.change(seat, core, Some(piece));
     }
 
     /// Takes the piece out of the slot of its core, which is full, once all other seats are joined. The first `fetch` of an open round
@@ -185,10 +183,36 @@ impl<T: Piece> Board<T> {
         ensures closed { seat.new.me.0.round.running ≡ false }
         ensures seat { seat.new.me ≡ (with_core (round_closed seat.old.me.0) core (emptied (state_at (round_closed seat.old.me.0) core)), []) }
     {
+        self.change(seat, core, None).unwrap()
+    }
+
+    /// Changes what is in the slot of a core, and answers what was there, by the first seat while no other is out. An open round ends
+    /// before that.
+    fn change(&self, seat: &mut Seat<T>, core: u32, new: Option<T>) -> Option<T>
+        requires board { seat.old.table_id ≡ board_id self.now }
+        requires first { IsFirst seat.old.me.0.role }
+        requires alone { (seat.old.me.0.round.running ≡ false) ⊎ (seat.old.me.0.seats_out ≡ 0) }
+        requires free { HoldsNone seat.old.me }
+        requires core { core < cores_of self.now }
+        requires at_home { IsFull (state_at seat.old.me.0 core).slot ⊎ IsEmpty (state_at seat.old.me.0 core).slot }
+        requires new { (piece : T) → new ≡ Some piece → T.core_of piece ≡ core }
+        ensures board { seat.new.table_id ≡ seat.old.table_id }
+        ensures cores { length seat.old.me.0.round.cores ≡ cores_of self.now }
+        ensures found { FitsAs T.core_of T.turns_of T.stem_of T.is_settled (state_at (round_closed seat.old.me.0) core).slot core
+            (state_at (round_closed seat.old.me.0) core) result }
+        ensures each_once { seat.old.me.0.round.running ≡ true → seat.old.me.0.saw_none ≡ true
+            → (other : ℕ) → times other seat.old.me.0.done ≡ below other (cores_of self.now) }
+        ensures closed { seat.new.me.0.round.running ≡ false }
+        ensures seat { seat.new.me ≡ (
+          with_core (round_closed seat.old.me.0) core
+              (with_slot T.core_of T.turns_of T.stem_of T.is_settled (state_at (round_closed seat.old.me.0) core) ((core, new) ∷ [])),
+          [],
+        ) }
+    {
         let slot = core as usize;
         self.table.shared.load::<TakeSlot<T>>(seat, slot + 1);
-        let piece = self.table.shared.exchange(seat, slot, None).unwrap();
+        let found = self.table.shared.exchange(seat, slot, new);
         self.table.shared.load::<ReturnSlot<T>>(seat, slot + 1);
-        piece
+        found
     }
 }

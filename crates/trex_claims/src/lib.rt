@@ -3,6 +3,7 @@
 
 mod board;
 mod claim;
+mod counting;
 mod laws;
 mod piece;
 mod rule;
@@ -12,6 +13,7 @@ mod view;
 
 pub use board::{Board, Seat};
 pub use claim::Claim;
+pub use counting::CountingPiece;
 pub use laws::rules_keep_pieces;
 pub use piece::Piece;
-pub use view::{Role, Round, CoreState, View, SlotState};
+pub use view::{CoreState, Role, Round, SlotState, View};

@@ -52,12 +52,13 @@ pub record IsIdle {T : Type 0} (cores : ℕ) (me : Me (Option T) View) : Type 0 
   pub cores_are : length me.0.round.cores ≡ cores
   pub empty : AreEmpty cores me.0
 
--- each of these facts has one proof at most
+-- that a role is the first has one proof at most
 pub IsFirst-prop : (role : Role) → IsProp (IsFirst role)
 IsFirst-prop First = Unit-prop
 IsFirst-prop Other = λ a b. absurd a
 IsFirst-prop Spent = λ a b. absurd a
 
+-- that a slot is empty has one proof at most
 pub IsEmpty-prop : (what : SlotState) → IsProp (IsEmpty what)
 IsEmpty-prop Empty = Unit-prop
 IsEmpty-prop Out = λ a b. absurd a

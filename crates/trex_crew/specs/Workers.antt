@@ -14,7 +14,7 @@ module _ {T : Type 0} where
     pub no_none_yet : me.0.saw_none ≡ false
     pub turns : (core : ℕ) → (state_at me.0 core).turns < 2 ^ 63
 
-  -- a seat that drew until it was told None
+  -- a seat that drew until it saw None
   pub record HasDrawn (before after : Me (Option T) View) : Type 0 where
     pub saw_none : after.0.saw_none ≡ true
     pub free : HoldsNone after

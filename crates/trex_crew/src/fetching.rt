@@ -1,4 +1,4 @@
-// The works of a crew are fetched from its board.
+// The works of a crew are fetched from its board at the end of a round.
 
 ghost use Rattle.std.specs.Prelude.{◌≡◌, ◌≢◌, ℕ, ◌+◌, ◌++◌, ◌∷◌, ◌<◌, ◌≤◌, [], true, length, vec_len};
 ghost use Rattle.std.specs.Vec.{vec_capacity};

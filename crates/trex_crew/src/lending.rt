@@ -1,4 +1,4 @@
-// The works of a crew are lent to its board, and fetched from it.
+// The works of a crew are lent to its board at the beginning of a round.
 
 ghost use Rattle.std.specs.Prelude.{◌≡◌, ◌≢◌, ℕ, ◌+◌, ◌<◌, [], length};
 ghost use Rattle.std.specs.Vec.{vec_capacity};
@@ -9,7 +9,7 @@ ghost use Rattle.trex_crew.specs.Rounds.{IsCalm, AreEmpty, IsLent, AreLent};
 
 use trex_claims::{Board, Piece, Seat};
 
-/// Lends a work.
+/// Lends the board a work.
 fn lend_one<T: Piece>(board: &Board<T>, seat: &mut Seat<T>, work: T)
     requires board { seat.old.table_id ≡ board_id board.now }
     requires calm { IsCalm (cores_of board.now) seat.old.me.0.round.rounds seat.old.me }

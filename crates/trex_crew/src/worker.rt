@@ -1,4 +1,4 @@
-// A worker, which draws cores from the board and gives their pieces their turns.
+// One worker of a round, which draws cores from the board and gives their pieces their turns.
 
 ghost use Rattle.std.specs.Prelude.{◌≡◌, ◌<◌, ◌^◌, [], ◌∷◌, Some};
 ghost use Rattle.trex_claims.specs.Board.{IsPiece};
@@ -11,7 +11,7 @@ use crate::gate::Gate;
 use crate::turns::take_turn;
 use trex_claims::{Board, Claim, Piece, Seat};
 
-/// The gate is entered, and then the claimed piece takes its turn and is put back.
+/// Enters the gate, and then gives the claimed piece its turn and puts it back.
 fn turn_claimed<T: Piece, G: Gate>(
     board: &Board<T>,
     seat: &mut Seat<T>,
@@ -35,7 +35,7 @@ fn turn_claimed<T: Piece, G: Gate>(
     board.put(seat, claim, piece);
 }
 
-/// Draws until no core is left.
+/// Draws until no core is left, and gives each piece that it draws its turn.
 pub(crate) fn work<T: Piece, G: Gate>(
     board: &Board<T>,
     seat: &mut Seat<T>,

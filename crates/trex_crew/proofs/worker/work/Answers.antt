@@ -1,6 +1,6 @@
 use Rattle.std.proofs.Common.{ap, ◌∙◌}
 use Rattle.trex_claims.specs.Boards.{cores_of}
-use Rattle.trex_crew.proofs.Drawing.{after_is, may_draw_on, worked_on}
+use Rattle.trex_crew.proofs.SeatDraws.{after_is, may_draw_on, worked_on}
 use Rattle.trex_crew.proofs.worker.work.Goals as goal
 
 pub loop-claim-preserved : goal.loop-claim-preserved
