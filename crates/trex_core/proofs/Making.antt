@@ -14,7 +14,7 @@ use Rattle.trex_sched.specs.declared.slot.Slot.{Slot}
 use Rattle.trex_stamp.specs.declared.header.Stamp.{Stamp}
 use Rattle.trex_vars.specs.declared.value.VarValue.{VarValue}
 use Rattle.trex_vm.specs.declared.instr.Instr.{Instr}
-use Rattle.trex_vm.specs.Packet.{packet}
+use Rattle.trex_vm.specs.Packet.{packet, version_of}
 use Rattle.trex_vm.specs.Program.{ProgramView}
 
 -- what is said of a value that there is
@@ -41,6 +41,12 @@ packet_is p base slot s spec values stamp template time there is read due header
     ∙ ap (λ (h : Option Stamp). packet (program s) (values_of s slot.number slot.in_run) h template) stamped
     ∙ ap (λ (t : List ℕ). packet (program s) (values_of s slot.number slot.in_run) (stamp_at s slot.number (base * 10 ^ 9 + slot.time)) t) (bytes ∙ is.template)
     ∙ ap (λ (o : Option Stream). option_map_or (λ (q : Stream). packet_of q slot.number slot.in_run (base * 10 ^ 9 + slot.time)) o []) (sym there)
+
+-- the version of a packet's latency header is its flow's
+pub version-stamp_with : (flow : Option Flow) (number time : ℕ)
+    → version_of (option_map (λ flow. stamp_with flow number time) flow) ≡ option_map (λ flow. flow.version) flow
+version-stamp_with None number time = refl
+version-stamp_with (Some flow) number time = refl
 
 -- there are as many rows as streams, where each shows the same of both
 pub rows_long : {X Y : Type 0} (f : X → Y) (g : Stream → Y) (rows : List X) (p : List Stream) → map f rows ≡ map g p → length rows ≡ length p

@@ -1,4 +1,4 @@
-use Rattle.std.proofs.Common.{◌≡◌, ◌++◌, [], ◌∷◌, map, slice_get, sym, ap, ◌∙◌, rules}
+use Rattle.std.proofs.Common.{◌≡◌, ◌++◌, [], ◌∷◌, map, slice_get, ap, ◌∙◌, rules}
 use Rattle.trex_profile.specs.Packets.{restarts, values_at, values_of, variables}
 use Rattle.trex_profile.specs.Spec.{IsSpecOf}
 use Rattle.trex_vars.specs.Variable.{variable_of}

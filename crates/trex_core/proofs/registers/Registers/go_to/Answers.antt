@@ -1,7 +1,6 @@
-use Rattle.std.proofs.Common.{◌≡◌, ◌++◌, List, drop, length, map, take, sym, ap, ◌∙◌, subst, arith}
+use Rattle.std.proofs.Common.{◌≡◌, ◌++◌, drop, length, map, take, sym, ap, ◌∙◌, subst, arith}
 use Rattle.std.proofs.lemmas.List.{take_at}
 use Rattle.std.specs.List.{AllByRecursion}
-use Rattle.trex_core.specs.declared.registers.Register.{Register}
 use Rattle.trex_core.specs.Registers.{IsAt, Standing, moved, restarts_of, shown, variables_of}
 use Rattle.trex_core.proofs.Registering.{moved_at, restarts-moved, variables-moved}
 use Rattle.trex_core.proofs.registers.Registers.go_to.Goals as goal

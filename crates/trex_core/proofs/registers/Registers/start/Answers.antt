@@ -1,4 +1,3 @@
-use Rattle.std.proofs.Common.{arith}
 use Rattle.trex_core.proofs.Registering.{sound_at}
 use Rattle.trex_core.proofs.registers.Registers.start.Goals as goal
 
