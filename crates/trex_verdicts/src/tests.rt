@@ -406,7 +406,7 @@ fn a_stream_has_its_variables_and_its_flow(rt: HostRuntime) -> Result<(), Fail> 
         assert_eq!(rt; stream.flow, flow);
         assert_eq!(rt; stream.template.len(), length);
         assert_eq!(rt; stream.vars.len(), 2);
-        assert_eq!(rt; stream.restart.as_slice(), &[false, true]);
+        assert_eq!(rt; stream.restart.as_slice(), [false, true].as_slice());
         let VarSpec::Counter { seed, position, .. } = &stream.vars[0] else {
             return Err(Fail::from("no counter"));
         };
