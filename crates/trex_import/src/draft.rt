@@ -46,8 +46,7 @@ fn array_text(alloc: Global, entries: Vec<Value>) -> Result<Vec<u8>, AllocError>
     ensures { IfOk result (λ text. items_have_float (items_view entries.items) ≡ false
         → text.items ≡ compact_text (array (items_view entries.items))) }
 {
-    let text = Value::Array(entries).to_vec(alloc)?;
-    Ok(text)
+    Value::Array(entries).to_vec(alloc)
 }
 
 impl Draft {
@@ -66,7 +65,7 @@ impl Draft {
         }
     }
 
-    // Keeps the rule that a record breaks at its place, or its entry, unless a rule was broken before.
+    /// Keeps the rule that a record breaks at its place, or its entry, unless a rule was broken before.
     fn keep(&mut self, place: Place, time: u64, bytes: &[u8], original: u32) -> Result<(), Memory>
         ensures unfit { OnOk result (self.new.unfit ≡ option_or self.old.unfit
             (record_unfit place.start place.before place.number

@@ -13,8 +13,7 @@ use std::alloc::{AllocError, Global};
 fn microseconds(alloc: Global, ns: u64) -> Result<String, AllocError>
     ensures { IfOk result (λ text. string_bytes text ≡ microseconds ns) }
 {
-    let text = format!(in alloc; "{}.{:03}", ns / 1000, ns % 1000)?;
-    Ok(text)
+    format!(in alloc; "{}.{:03}", ns / 1000, ns % 1000)
 }
 
 /// The entry of a gap, a packet and an id that are texts.

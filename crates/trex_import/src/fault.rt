@@ -1,3 +1,5 @@
+// Why a capture isn't imported.
+
 use trex_pcap::{CaptureFault, Unfit};
 
 /// Why a capture wasn't imported.

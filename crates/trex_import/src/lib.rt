@@ -1,4 +1,4 @@
-// A capture made a profile: each record becomes a stream that sends its bytes once, at the record's time since the first.
+//! A capture made a profile: each record becomes a stream that sends its bytes once, at the record's time since the first.
 #![tactic(auto)]
 
 mod capture;

@@ -1,3 +1,5 @@
+// Why the records of a capture make no profile.
+
 /// Why a capture without a fault makes no profile, and at which record; records are counted from 1.
 #[derive(Clone, Copy, Debug, PartialEq, Eq, Drop)]
 pub enum Unfit {

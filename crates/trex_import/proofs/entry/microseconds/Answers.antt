@@ -2,7 +2,9 @@ use Rattle.std.proofs.Common.{◌≡◌, ℕ, ◌+◌, ◌-◌, ◌/◌, ◌%◌
 use Rattle.std.proofs.lemmas.Bool.{cases_lt}
 use Rattle.std.proofs.lemmas.Fmt.{decimal_digit, decimal_step}
 use Rattle.std.specs.Fmt.{char_count, padded_integral, format_spec}
-use Rattle.trex_import.specs.Imported.{three_digits}
+use Rattle.trex_import.specs.Imported.{microseconds, three_digits}
+use Rattle.std.proofs.lemmas.Result.{IfOk-weaker}
+use Rattle.std.specs.String.{string_bytes}
 use Rattle.trex_import.proofs.entry.microseconds.Goals as goal
 
 -- a number, padded to three digits with zeros
@@ -42,4 +44,4 @@ pub returns : goal.returns
 unfolding padded
 returns c =
     let ns = c.args.ns in
-    c.in_ok-text.ensures.ok ∙ ap (λ l. decimal (ns / 1000) ++ 46 ∷ l) (rw c.laid_out.ensures (pads (ns % 1000) (omega arith)))
+    IfOk-weaker c.format.result _ (λ text. string_bytes text ≡ microseconds ns) (λ text is. is ∙ ap (λ l. decimal (ns / 1000) ++ 46 ∷ l) (rw c.laid_out.ensures (pads (ns % 1000) (omega arith)))) c.format.ensures.ok
