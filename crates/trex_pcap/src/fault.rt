@@ -1,5 +1,3 @@
-// The faults of a capture.
-
 use thiserror::Error;
 
 /// What is wrong with a capture, and at which record; records are counted from 1.

@@ -1,5 +1,3 @@
-// How a capture spells its numbers.
-
 /// How a capture spells its numbers, as its magic number says.
 #[derive(Clone, Copy, Debug, PartialEq, Eq, Drop)]
 pub struct Format {

@@ -1,5 +1,3 @@
-// The laws of captures.
-
 ghost use Rattle.std.specs.Prelude.{◌≡◌, ℕ, ◌≤◌, List, length, map, Option, None};
 ghost use Rattle.trex_io.specs.Seen.{Seen};
 ghost use Rattle.trex_pcap.specs.declared.fault.CaptureFault.{CaptureFault};

@@ -1,5 +1,3 @@
-// The reader of a capture: `start` reads the file header, and each `next` one record, until `live` is false.
-
 ghost use Rattle.std.specs.Prelude.{◌≡◌, ◌+◌, ◌^◌, ◌<◌, ◌≤◌, true, length, IfOk, IfSome, IfNone, IsErrOf};
 ghost use Rattle.std.specs.Io.KnownBytes.{IsAtEnd};
 ghost use Rattle.trex_io.specs.Faults.{Rises};
@@ -92,7 +90,7 @@ impl CaptureReader {
     }
 }
 
-/// The record that stands at the front of what is left, where so many came before.
+// The record that stands at the front of what is left, where so many came before.
 fn read_record<S: Source>(
     format: Format,
     before: u64,
@@ -140,7 +138,7 @@ mod tests {
     use std::test::Fail;
     use trex_io::MemSource;
 
-    /// The answer to these bytes after so many records.
+    // The answer to these bytes after so many records.
     fn after(
         alloc: Global,
         records: u64,

@@ -1,5 +1,3 @@
-// A record that the reader gives.
-
 /// A record of a capture (pcap 2.4, packet record). Its captured bytes stand in the caller's buffer.
 #[derive(Clone, Copy, Debug, PartialEq, Eq, Drop)]
 pub struct Record {

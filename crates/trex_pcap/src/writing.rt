@@ -1,5 +1,3 @@
-// The headers of a capture that is written.
-
 ghost use Rattle.std.specs.Prelude.{◌≡◌, ◌<◌, ◌*◌, ◌^◌};
 ghost use Rattle.trex_pcap.specs.Writing.{file_header, record_header_of};
 
