@@ -1,7 +1,6 @@
 use Rattle.std.proofs.Common.{◌≡◌, ◌∙◌, slice_get, sym, subst}
-use Rattle.trex_core.specs.Registers.{values_at}
 use Rattle.trex_core.proofs.Making.{at_stream, packet_is, some_is}
-use Rattle.trex_profile.specs.Packets.{variables}
+use Rattle.trex_profile.specs.Packets.{values_of}
 use Rattle.trex_profile.specs.Spec.{IsSpecOf}
 use Rattle.trex_vm.specs.Program.{AreValuesOf}
 use Rattle.trex_core.proofs.maker.write_packet.Goals as goal
@@ -12,8 +11,8 @@ run_plain-requires-clause-values c =
     let slot = c.args.slot.now in
     let spec = c.stream-spec.result.now in
     let s = some_is (slice_get p slot.stream) (λ s. IsSpecOf s spec) c.stream-spec.ensures in
-    let read = at_stream p slot.stream s.0 (λ s. c.args.values.now ≡ values_at (variables s) slot.number) s.1 c.requires.values in
-    subst (AreValuesOf spec.program) (sym read) (s.2.values slot.number)
+    let read = at_stream p slot.stream s.0 (λ s. c.args.values.now ≡ values_of s slot.number slot.in_run) s.1 c.requires.values in
+    subst (AreValuesOf spec.program) (sym read) (s.2.values slot.number slot.in_run)
 
 pub returns-clause-packet : goal.returns-clause-packet
 returns-clause-packet c =
@@ -21,7 +20,13 @@ returns-clause-packet c =
     let slot = c.args.slot.now in
     let spec = c.stream-spec.result.now in
     let s = some_is (slice_get p slot.stream) (λ s. IsSpecOf s spec) c.stream-spec.ensures in
-    let read = at_stream p slot.stream s.0 (λ s. c.args.values.now ≡ values_at (variables s) slot.number) s.1 c.requires.values in
+    let read = at_stream p slot.stream s.0 (λ s. c.args.values.now ≡ values_of s slot.number slot.in_run) s.1 c.requires.values in
     c.run_plain.ensures.packet
     ∙ packet_is p c.args.plan.now.base slot s.0 spec c.args.values.now c.stamp_of-stamp.result c.deref.result.now c.time_of.result
-    s.1 s.2 read c.time_of.ensures c.stamp_of-stamp.ensures c.deref.ensures.value
+    s.1 s.2 read c.time_of.ensures c.stamp_of-stamp.ensures.value c.deref.ensures.value
+
+pub run_plain-requires-clause-stamp : goal.run_plain-requires-clause-stamp
+run_plain-requires-clause-stamp c = ?
+
+pub stamp_of-stamp-requires : goal.stamp_of-stamp-requires
+stamp_of-stamp-requires c = ?
