@@ -1,5 +1,5 @@
 -- What a flow's latency headers can hold.
-use Rattle.std.proofs.Common.{◌≡◌, ℕ, ◌%◌, ◌<◌, ◌^◌, Option, None, Some, IfSome, refl, arith}
+use Rattle.std.proofs.Common.{ℕ, ◌<◌, ◌^◌, Option, None, Some, IfSome, refl, arith}
 use Rattle.std.specs.Option.{ForSome}
 use Rattle.trex_stamp.specs.declared.header.Version.{Version}
 use Rattle.trex_stamp.specs.declared.header.Version.TheVariants.{One, Two}

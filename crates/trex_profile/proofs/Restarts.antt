@@ -1,5 +1,5 @@
 -- The values of a stream's variables, each at an index of its own.
-use Rattle.std.proofs.Common.{◌≡◌, ℕ, zero, suc, ◌+◌, Bool, List, [], ◌∷◌, length, None, refl, ap, arith}
+use Rattle.std.proofs.Common.{◌≡◌, ℕ, suc, ◌+◌, Bool, List, [], ◌∷◌, length, None, refl, ap, arith}
 use Rattle.std.specs.List.{AllByRecursion, filter_map}
 use Rattle.trex_vars.specs.Check.{fault_of}
 use Rattle.trex_vars.specs.Variable.{Variable}

@@ -15,8 +15,8 @@ mod refusal;
 mod rule;
 mod rules;
 
-pub use admission::{AdmitFault, admit};
-pub use fault::StreamFault;
+pub use admission::admit;
+pub use fault::{AdmitFault, Fault, StreamFault};
 pub use flow::Flow;
 pub use laws::{profiles_can_be_walked, value_rules_in_order};
 pub use member::StreamSpec;

@@ -12,6 +12,7 @@ mod sample;
 #[cfg(test)]
 mod tests;
 mod usage;
+mod wire;
 
 pub use capture::write_bad_capture;
 pub use flows::write_flows;

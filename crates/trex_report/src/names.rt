@@ -69,6 +69,9 @@ pub(crate) fn option_name(option: OptionName) -> &'static str
         OptionName::Base => "base",
         OptionName::Seed => "seed",
         OptionName::Streams => "streams",
+        OptionName::Loss => "loss",
+        OptionName::Copy => "copy",
+        OptionName::Delay => "delay",
     }
 }
 

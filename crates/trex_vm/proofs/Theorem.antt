@@ -15,11 +15,12 @@ use Rattle.trex_vars.specs.declared.value.VarValue.{VarValue}
 use Rattle.trex_vm.specs.declared.effect.Fix.{Fix}
 use Rattle.trex_vm.specs.declared.instr.Instr.{Instr}
 use Rattle.trex_vm.specs.Effect.{end_of, fix_of, span_of, writes_byte}
-use Rattle.trex_vm.specs.Fix.{header_of}
+use Rattle.trex_vm.specs.Fix.{header_of, ip_version, protocol_place}
 use Rattle.trex_vm.specs.Packet.{after, after_all, trimmed, version_of, stamped, stamped_template, packet}
 use Rattle.trex_vm.specs.Cover.{Covers, StaysFixed, HeaderVerifies}
 use Rattle.trex_vm.specs.Rules.{header_size, no_room_for_stamp, writes_past, finds_header, misses_header, overwrites_kind, overwrites_kind_of, overwrites_header_kind}
 use Rattle.trex_vm.specs.Program.{ProgramView, room, IsProgram, IsTemplateOf, AreValuesOf}
+use Rattle.trex_vm.proofs.Fixed.{places}
 use Rattle.trex_vm.proofs.Steps.{SameKind, SameHeader, length-after, length-after_all, get_or-after_all, after_all-append, finds_header-long, misses_header-same, misses_header-wider, writes_past-wider, place-within, after-verifies, HeaderVerifies-same}
 
 -- a test that no instruction of a list passes fails at each
@@ -48,16 +49,17 @@ after_all-more values instrs b i d below = ap (λ (xs : List Instr). after_all v
 All-places : (instrs : List Instr) (b : List ℕ) (limit : ℕ) → Fit instrs b limit → All (λ i. end_of (span_of i) ≤ limit) instrs
 All-places instrs b limit fit = λ k d below. place-within (get_or instrs k d) b limit (fit.places k d below) (fit.headers k d below)
 
--- instructions that don't overwrite a header's kind keep its first byte and its protocol
+-- instructions that don't overwrite a header's kind keep its first byte and its protocol or next header
 keeps_header : (values : List VarValue) (instrs : List Instr) (b : List ℕ) (n : ℕ) (fix : Fix) → All (λ i. end_of (span_of i) ≤ n) instrs → n ≤ length b
     → All (λ i. overwrites_kind i fix ≡ false) instrs → SameKind fix b (after_all values instrs b)
 keeps_header values instrs b n fix places wide keeps =
     let at = header_of fix in
+    let protocol = protocol_place fix in
     let within = recursion_from_All (λ i. end_of (span_of i) ≤ n) instrs places in
-    let both : (k : ℕ) (d : Instr) → k < length instrs → (writes_byte (get_or instrs k d) at ≡ false) × (writes_byte (get_or instrs k d) (at + 9) ≡ false) =
-    λ k d below. or_parts (writes_byte (get_or instrs k d) at) (writes_byte (get_or instrs k d) (at + 9)) (keeps k d below) in (
+    let both : (k : ℕ) (d : Instr) → k < length instrs → (writes_byte (get_or instrs k d) at ≡ false) × (writes_byte (get_or instrs k d) protocol ≡ false) =
+    λ k d below. or_parts (writes_byte (get_or instrs k d) at) (writes_byte (get_or instrs k d) protocol) (keeps k d below) in (
       sym (get_or-after_all values instrs b n at within wide (recursion_from_All (λ i. writes_byte i at ≡ false) instrs (λ k d below. (both k d below).0))),
-      sym (get_or-after_all values instrs b n (at + 9) within wide (recursion_from_All (λ i. writes_byte i (at + 9) ≡ false) instrs (λ k d below. (both k d below).1))),
+      sym (get_or-after_all values instrs b n protocol within wide (recursion_from_All (λ i. writes_byte i protocol ≡ false) instrs (λ k d below. (both k d below).1))),
     )
 
 SameHeader-after_all : (values : List VarValue) (instrs : List Instr) (i : Instr) (b : List ℕ) (n : ℕ) → All (λ j. end_of (span_of j) ≤ n) instrs → n ≤ length b → KeepsKinds instrs i
@@ -147,7 +149,8 @@ SameHeader-stamped_template i p values stamp template runs = by_fix (fix_of i)
     by_fix None found = tt
     by_fix (Some fix) found =
         let long = finds_header-long fix template (room p) (not-false (finds_header template (room p) fix) found) in
-        (get_or-stamped_template p values stamp template (header_of fix) runs (omega (arith, long)), get_or-stamped_template p values stamp template (header_of fix + 9) runs (omega (arith, long)))
+        let within = (places (ip_version fix)).within_protocol in
+        (get_or-stamped_template p values stamp template (header_of fix) runs (omega (arith, long)), get_or-stamped_template p values stamp template (protocol_place fix) runs (omega (arith, long)))
 
 pub length-stamped_template : (p : ProgramView) (values : List VarValue) (stamp : Option Stamp) (template : List ℕ) → Runs p values stamp template
     → length (stamped_template p.instrs values stamp template) ≡ cut p values template

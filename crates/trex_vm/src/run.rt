@@ -1,16 +1,18 @@
 // Packets, made of a template.
 
-ghost use Rattle.std.specs.Prelude.{◌≡◌, ◌+◌, ◌≤◌, List, ◌∷◌, ◌++◌, false, All, length, take, drop};
+ghost use Rattle.std.specs.Prelude.{◌≡◌, ◌+◌, ◌≤◌, List, ◌∷◌, ◌++◌, false, true, All, length, take, drop};
 ghost use Rattle.std.specs.List.{list_any};
 ghost use Rattle.std.specs.Option.{ForSome};
 ghost use Rattle.trex_stamp.specs.Stamp.{IsStamp};
+ghost use Rattle.trex_vm.specs.Fix.{fixed};
 ghost use Rattle.trex_vm.specs.Packet.{after, after_all, trimmed, version_of, stamped, packet};
 ghost use Rattle.trex_vm.specs.declared.instr.Instr.{Instr as AnInstr};
 ghost use Rattle.trex_vm.specs.Cover.{StaysFixed, HeaderVerifies};
-ghost use Rattle.trex_vm.specs.Rules.{header_size, writes_past, misses_header, overwrites_header_kind};
+ghost use Rattle.trex_vm.specs.Rules.{header_size, writes_past, finds_header, misses_header, overwrites_header_kind};
 ghost use Rattle.trex_vm.specs.Program.{TakesFrom, IsFormed, IsTemplateOf, AreValuesOf};
 
-use crate::fix::{fix_ipv4, fix_l4};
+use crate::effect::Fix;
+use crate::fix::{fix_ipv4, fix_segment};
 use crate::instr::Instr;
 use crate::program::Program;
 use crate::write::{number_in, shift_by, sum_in, write_masked, write_number};
@@ -62,6 +64,22 @@ fn packet_length(instrs: &[Instr], values: &[VarValue], whole: usize) -> usize
     whole
 }
 
+/// Writes the checksum of a fix.
+fn apply_fix(fix: Fix, bytes: &mut [u8])
+    requires { finds_header bytes.old (length bytes.old) fix ≡ true }
+    ensures { bytes.new ≡ fixed fix bytes.old }
+{
+    match fix {
+        Fix::Header { at } => fix_ipv4(bytes, at),
+        Fix::Segment {
+            version,
+            ip,
+            header,
+            kind,
+        } => fix_segment(bytes, version, kind, ip, header),
+    }
+}
+
 /// Applies one instruction.
 fn apply(instr: &Instr, values: &[VarValue], bytes: &mut [u8])
     requires operand { TakesFrom (length values.now) instr.now }
@@ -86,9 +104,11 @@ fn apply(instr: &Instr, values: &[VarValue], bytes: &mut [u8])
             let number = shift_by(sum_in(values, from, add), shift);
             write_masked(bytes, big, cast, at, mask, number);
         }
-        Instr::FixIpv4 { at } => fix_ipv4(bytes, at),
-        Instr::FixL4 { ip, header, kind } => fix_l4(bytes, kind, ip, header),
-        Instr::Trim { .. } => {}
+        _ => {
+            if let Some(fix) = instr.fix_of() {
+                apply_fix(fix, bytes);
+            }
+        }
     }
 }
 

@@ -8,6 +8,7 @@ pub enum Command {
     Check,
     Analyze,
     Sample,
+    Wire,
     Help,
 }
 
@@ -23,6 +24,8 @@ pub fn command_of(word: &str) -> Option<Command>
         Some(Command::Analyze)
     } else if word == "sample" {
         Some(Command::Sample)
+    } else if word == "wire" {
+        Some(Command::Wire)
     } else if word == "help" {
         Some(Command::Help)
     } else {

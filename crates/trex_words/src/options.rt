@@ -1,5 +1,5 @@
 ghost use Rattle.std.specs.Prelude.{◌≡◌};
-ghost use Rattle.trex_words.specs.Asked.{limits_of, options_of, schedule_options, run_options, sample_options};
+ghost use Rattle.trex_words.specs.Asked.{limits_of, options_of, schedule_options, run_options, sample_options, wire_options};
 
 use crate::command::Command;
 
@@ -47,6 +47,19 @@ pub const STREAMS: Limits = Limits {
     default: 16,
 };
 
+// Those of a share in millionths, such as that of lost records.
+pub const MILLIONTHS: Limits = Limits {
+    least: 0,
+    greatest: 1_000_000,
+    default: 0,
+};
+
+pub const DELAY: Limits = Limits {
+    least: 0,
+    greatest: 1_000_000_000_000_000_000,
+    default: 0,
+};
+
 // The limits of an option of a run or of a sample.
 fn schedule_limits(name: &str) -> Option<Limits>
     ensures { result ≡ limits_of schedule_options name.now }
@@ -86,6 +99,21 @@ fn sample_limits(name: &str) -> Option<Limits>
     }
 }
 
+// The limits of an option of a wire.
+fn wire_limits(name: &str) -> Option<Limits>
+    ensures { result ≡ limits_of wire_options name.now }
+{
+    if name == "--seed" {
+        Some(SEED)
+    } else if name == "--loss" || name == "--copy" {
+        Some(MILLIONTHS)
+    } else if name == "--delay" {
+        Some(DELAY)
+    } else {
+        None
+    }
+}
+
 // The limits of an option of a command.
 pub fn limits_of(command: Command, name: &str) -> Option<Limits>
     ensures { result ≡ limits_of (options_of command) name.now }
@@ -93,6 +121,7 @@ pub fn limits_of(command: Command, name: &str) -> Option<Limits>
     match command {
         Command::Run => run_limits(name),
         Command::Sample => sample_limits(name),
+        Command::Wire => wire_limits(name),
         Command::Check | Command::Analyze | Command::Help => None,
     }
 }

@@ -1,10 +1,12 @@
 ghost use Rattle.std.specs.Prelude.{◌≡◌, ◌+◌, ◌*◌, ◌/◌, ◌^◌, ◌<◌, ◌≤◌, true, None, Some, length, IfOk};
 ghost use Rattle.std.specs.Str.Parse.{digits_value};
-ghost use Rattle.trex_words.specs.Asked.{texts, word, value_place, is_number, is_within, value_fault, pair_fault, fault_of, missing_option, command_fault, limits_of, options_of, run_options, sample_options, value_of, run_of, run_ask, sample_ask, request, asked, IsRunAsk, IsSampleAsk, IsAsked};
+ghost use Rattle.trex_words.specs.Asked.{texts, word, value_place, is_number, is_within, value_fault, pair_fault, fault_of, missing_option, command_fault, limits_of, options_of, run_options, sample_options, wire_options, value_of, run_of, run_ask, sample_ask, wire_ask, request, asked, IsRunAsk, IsSampleAsk, IsWireAsk, IsAsked};
 
-use crate::asked::{Asked, OptionName, RunAsk, SampleAsk, Usage};
+use crate::asked::{Asked, OptionName, RunAsk, SampleAsk, Usage, WireAsk};
 use crate::command::{Command, command_of};
-use crate::options::{BASE, CORES, DURATION, LIMIT, Limits, SEED, STREAMS, limits_of};
+use crate::options::{
+    BASE, CORES, DELAY, DURATION, LIMIT, Limits, MILLIONTHS, SEED, STREAMS, limits_of,
+};
 
 // The word at a place.
 fn word(words: &[String], at: usize) -> &str
@@ -103,7 +105,7 @@ fn missing_option(command: Command, words: &[String]) -> Option<Usage>
 {
     let seed = value_place(words, words.len() / 2, "--seed");
     match (command, seed) {
-        (Command::Sample, None) => Some(Usage::Missing {
+        (Command::Sample | Command::Wire, None) => Some(Usage::Missing {
             option: OptionName::Seed,
         }),
         _ => None,
@@ -181,6 +183,20 @@ fn sample_ask(words: &[String]) -> SampleAsk
     }
 }
 
+// The options of a wire, where nothing is wrong with the words.
+fn wire_ask(words: &[String]) -> WireAsk
+    requires { fault_of wire_options (texts words.now) ≡ None }
+    ensures value { result ≡ wire_ask (texts words.now) }
+    ensures ranges { IsWireAsk result }
+{
+    WireAsk {
+        seed: value_of(Command::Wire, words, "--seed", SEED),
+        loss: value_of(Command::Wire, words, "--loss", MILLIONTHS) as u32,
+        copy: value_of(Command::Wire, words, "--copy", MILLIONTHS) as u32,
+        delay: value_of(Command::Wire, words, "--delay", DELAY),
+    }
+}
+
 // What a command asks for, where nothing is wrong with the words.
 fn request(command: Command, words: &[String]) -> Asked
     requires { fault_of (options_of command) (texts words.now) ≡ None }
@@ -192,14 +208,16 @@ fn request(command: Command, words: &[String]) -> Asked
         Command::Check => Asked::Check,
         Command::Analyze => Asked::Analyze,
         Command::Sample => Asked::Sample(sample_ask(words)),
+        Command::Wire => Asked::Wire(wire_ask(words)),
         Command::Help => Asked::Help,
     }
 }
 
-/// What the command words ask for, or the first fault from the left. Word 0 is the command: `run`, `check`, `analyze`, `sample` or
-/// `help`. The options are pairs of words in any order, each at most once. `run` and `sample` have `--duration` (1 to 10^18, else
+/// What the command words ask for, or the first fault from the left. Word 0 is the command: `run`, `check`, `analyze`, `sample`,
+/// `wire` or `help`. The options are pairs of words in any order, each at most once. `run` and `sample` have `--duration` (1 to 10^18, else
 /// 10^9), `--limit` (1 to 100000000, else 100000) and `--cores` (1 to 64, else 1). `run` has `--base` (0 to 3000000000, else 0).
-/// `sample` has `--seed` (0 to 2^64 - 1, which must be given) and `--streams` (1 to 256, else 16). A value is one or more digits.
+/// `sample` and `wire` have `--seed` (0 to 2^64 - 1, which must be given). `sample` has `--streams` (1 to 256, else 16). `wire` has
+/// `--loss` and `--copy` (0 to 1000000, else 0) and `--delay` (0 to 10^18, else 0). A value is one or more digits.
 pub fn read_words(words: &[String]) -> Result<Asked, Usage>
     ensures value { result ≡ asked (texts words.now) }
     ensures ranges { IfOk result IsAsked }

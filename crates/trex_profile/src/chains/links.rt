@@ -1,13 +1,14 @@
 // The ids of streams, and which stream follows which.
 
 ghost use Rattle.std.specs.Prelude.{◌≡◌, ℕ, ◌≤◌, ◌<◌, map, length, IfOk, Some, None, Err};
+ghost use Rattle.trex_profile.specs.declared.fault.Fault.TheVariants.{Refused as IsRefused};
 ghost use Rattle.trex_profile.specs.Cross.{duplicate_refusal, lost_refusal, is_lost};
 ghost use Rattle.trex_profile.specs.Links.{ids, is_endless, effective_next, links};
 ghost use Rattle.trex_profile.specs.Member.{member_stream};
 ghost use Rattle.trex_profile.specs.Order.{first_each};
 ghost use Rattle.trex_profile.specs.Visits.{IsLink, link_at};
 
-use crate::admission::AdmitFault;
+use crate::fault::AdmitFault;
 use crate::member::Member;
 use crate::refusal::{Breach, Refusal};
 use crate::rule::Rule;
@@ -21,7 +22,7 @@ pub(crate) fn index_ids(alloc: Global, members: &[Member]) -> Result<IndexSet<u3
     requires { length members.now ≤ 4096 }
     ensures kept { IfOk result (λ found. found.keys ≡ ids (map member_stream members.now)) }
     ensures passed { IfOk result (λ found. first_each (duplicate_refusal (ids (map member_stream members.now))) 0 (map member_stream members.now) ≡ None) }
-    ensures refused { (refusal : Refusal) → result ≡ Err (AdmitFault.Refused refusal)
+    ensures refused { (refusal : Refusal) → result ≡ Err (IsRefused refusal)
         → first_each (duplicate_refusal (ids (map member_stream members.now))) 0 (map member_stream members.now) ≡ Some refusal }
 {
     let mut found = IndexSet::new(alloc);

@@ -89,11 +89,11 @@ pub(crate) fn program_for(
 {
     let instrs = program_of(alloc, steps)?;
     if let Some(breach) = length_breach(vars, template.len(), stamp, steps, &instrs) {
-        return Err(StreamFault::Broken(breach));
+        return Err(StreamFault::Refused(breach));
     }
     let room = room_of(least_length(vars, &instrs, template.len()), stamp);
     if let Some(breach) = place_breach(template, room, steps, &instrs) {
-        return Err(StreamFault::Broken(breach));
+        return Err(StreamFault::Refused(breach));
     }
     Ok(Program::of_accepted(instrs, vars, template, stamp))
 }

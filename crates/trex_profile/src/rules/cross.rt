@@ -1,6 +1,7 @@
 // The rules over several streams, in their order.
 
 ghost use Rattle.std.specs.Prelude.{◌≡◌, ℕ, ◌≤◌, ◌<◌, length, map, None, Some, Err, IfOk, OnOk};
+ghost use Rattle.trex_profile.specs.declared.fault.Fault.TheVariants.{Refused as IsRefused};
 ghost use Rattle.trex_profile.specs.Chains.{starts};
 ghost use Rattle.trex_profile.specs.Cross.{cross_rules};
 ghost use Rattle.trex_profile.specs.Links.{links};
@@ -8,10 +9,10 @@ ghost use Rattle.trex_profile.specs.Member.{member_stream};
 ghost use Rattle.trex_profile.specs.Reached.{AreRising};
 ghost use Rattle.trex_profile.specs.Visits.{link_at};
 
-use crate::admission::AdmitFault;
 use crate::chains::links::{first_lost, index_ids, links_of};
 use crate::chains::reach::{first_shared, reaches};
 use crate::chains::visits::starts_of;
+use crate::fault::AdmitFault;
 use crate::member::Member;
 use crate::refusal::Refusal;
 use crate::rules::flows::differ_in_flows;
@@ -31,7 +32,7 @@ pub(crate) struct Following {
 pub(crate) fn follow(alloc: Global, members: &[Member]) -> Result<Following, AdmitFault>
     requires { length members.now ≤ 4096 }
     ensures kept { OnOk result (cross_rules (map member_stream members.now) ≡ None) }
-    ensures refused { (refusal : Refusal) → result ≡ Err (AdmitFault.Refused refusal) → cross_rules (map member_stream members.now) ≡ Some refusal }
+    ensures refused { (refusal : Refusal) → result ≡ Err (IsRefused refusal) → cross_rules (map member_stream members.now) ≡ Some refusal }
     ensures links { IfOk result (λ f. f.links.items ≡ links (map member_stream members.now)) }
     ensures same { IfOk result (λ f. length f.links.items ≡ length members.now) }
     ensures within { IfOk result (λ f. (at next : ℕ) → link_at f.links.items at ≡ Some next → next < length f.links.items) }

@@ -2,11 +2,12 @@
 
 ghost use Rattle.std.specs.Prelude.{◌≡◌, ◌≤◌, ◌++◌, length, map, None, Some, Err, OnOk, IfOk, false};
 ghost use Rattle.std.specs.Option.{option_to_list};
+ghost use Rattle.trex_profile.specs.declared.fault.Fault.TheVariants.{Refused as IsRefused};
 ghost use Rattle.trex_profile.specs.Cross.{has_flow, flow_refusal};
 ghost use Rattle.trex_profile.specs.Member.{member_stream};
 ghost use Rattle.trex_profile.specs.Order.{first_each};
 
-use crate::admission::AdmitFault;
+use crate::fault::AdmitFault;
 use crate::flow::number_of;
 use crate::member::Member;
 use crate::refusal::{Breach, Refusal};
@@ -30,7 +31,7 @@ fn note(found: &mut IndexSet<u32>, number: Option<u32>) -> Result<bool, AllocFai
 pub(crate) fn differ_in_flows(alloc: Global, members: &[Member]) -> Result<(), AdmitFault>
     requires { length members.now ≤ 4096 }
     ensures kept { OnOk result (first_each (flow_refusal (map member_stream members.now)) 0 (map member_stream members.now) ≡ None) }
-    ensures refused { (refusal : Refusal) → result ≡ Err (AdmitFault.Refused refusal)
+    ensures refused { (refusal : Refusal) → result ≡ Err (IsRefused refusal)
         → first_each (flow_refusal (map member_stream members.now)) 0 (map member_stream members.now) ≡ Some refusal }
 {
     let mut found = IndexSet::new(alloc);

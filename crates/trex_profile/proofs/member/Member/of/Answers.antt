@@ -1,4 +1,4 @@
-use Rattle.std.proofs.Common.{rules, ◌≡◌, ℕ, ◌<◌, ◌++◌, Bool, List, true, IfSome, map, ap, subst, sym, ◌∙◌, refl, is_some, arith, Option, None, Some, ◌%◌, ◌^◌}
+use Rattle.std.proofs.Common.{◌≡◌, ℕ, ◌++◌, Bool, List, true, IfSome, map, ap, subst, sym, ◌∙◌, refl, arith, Option, None, Some}
 use Rattle.std.specs.List.{filter_map}
 use Rattle.std.specs.Option.{option_map}
 use Rattle.std.proofs.lemmas.List.Elements.{recursion_from_All}
