@@ -7,5 +7,4 @@ pub mod Operands
 pub mod Layers
 pub mod Shape
 pub mod Order
-pub mod Answer
 pub mod Verdict

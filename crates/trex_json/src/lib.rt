@@ -4,7 +4,7 @@
 mod addresses;
 mod binary;
 mod entry;
-mod fault;
+mod flow;
 mod instr;
 mod kinds;
 mod layers;
@@ -14,6 +14,5 @@ mod order;
 mod reading;
 mod stream;
 
-pub use fault::ProfileFault;
 pub use order::shape_rules_in_order;
-pub use reading::{LONGEST_TEXT, read_profile};
+pub use reading::{LONGEST_TEXT, ProfileFault, read_profile};

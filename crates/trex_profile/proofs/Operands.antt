@@ -11,8 +11,8 @@ use Rattle.trex_vm.specs.declared.instr.Operand.{Operand}
 use Rattle.trex_vm.specs.Program.{TakesFrom, IsFormed, AreOperandsOf}
 use Rattle.trex_vm.specs.declared.instr.L4Kind.TheVariants.{Tcp, Udp}
 use Rattle.trex_vm.specs.declared.instr.Instr.TheVariants.{Write as WriteInstr, WriteMask as WriteMaskInstr, Trim as TrimInstr}
-use Rattle.trex_profile.specs.declared.step.Step.{Step}
-use Rattle.trex_profile.specs.declared.step.Step.TheVariants.{Makes, Does, FixesHeader, FixesSegment}
+use Rattle.trex_profile.specs.declared.instructions.steps.Step.{Step}
+use Rattle.trex_profile.specs.declared.instructions.steps.Step.TheVariants.{Makes, Does, FixesHeader, FixesSegment}
 use Rattle.trex_profile.specs.Given.{Given, givens, has_name, operand_of}
 use Rattle.trex_profile.specs.Instruction.{Instruction, FlowVar, ListVar, RandLimit, Tuple, Write, WriteMask, FixIpv4, FixHw, Trim, IsRawInstr}
 use Rattle.trex_profile.specs.Steps.{variables_from, byte_at, write_at, fixes, step, steps_of, instrs_of, program_of}
@@ -28,10 +28,10 @@ IsIn count instr = TakesFrom count instr × IsFormed instr
 
 var_after-above : (var : ℕ) (xs : List Instruction) → var ≤ var_after var xs
 var_after-above var [] = omega arith
-var_after-above var (FlowVar name size op init min max step ∷ xs) = let rest = var_after-above (var + 1) xs in omega arith
-var_after-above var (ListVar name size op step values ∷ xs) = let rest = var_after-above (var + 1) xs in omega arith
-var_after-above var (RandLimit name size min max limit seed ∷ xs) = let rest = var_after-above (var + 1) xs in omega arith
-var_after-above var (Tuple name ip_min ip_max port_min port_max limit ∷ xs) = let rest = var_after-above (var + 1) xs in omega arith
+var_after-above var (FlowVar name size op init min max step restart ∷ xs) = let rest = var_after-above (var + 1) xs in omega arith
+var_after-above var (ListVar name size op step values restart ∷ xs) = let rest = var_after-above (var + 1) xs in omega arith
+var_after-above var (RandLimit name size min max limit seed restart ∷ xs) = let rest = var_after-above (var + 1) xs in omega arith
+var_after-above var (Tuple name ip_min ip_max port_min port_max limit restart ∷ xs) = let rest = var_after-above (var + 1) xs in omega arith
 var_after-above var (Write name place add big ∷ xs) = var_after-above var xs
 var_after-above var (WriteMask name place cast mask shift add big ∷ xs) = var_after-above var xs
 var_after-above var (FixIpv4 at ∷ xs) = var_after-above var xs
@@ -41,10 +41,10 @@ var_after-above var (Trim name ∷ xs) = var_after-above var xs
 -- there are as many variables as are counted
 count-variables : (seed place var : ℕ) (xs : List Instruction) → var + length (variables_from seed place xs) ≡ var_after var xs
 count-variables seed place var [] = omega arith
-count-variables seed place var (FlowVar name size op init min max step ∷ xs) = let rest = count-variables seed (place + 1) (var + 1) xs in omega arith
-count-variables seed place var (ListVar name size op step values ∷ xs) = let rest = count-variables seed (place + 1) (var + 1) xs in omega arith
-count-variables seed place var (RandLimit name size min max limit own ∷ xs) = let rest = count-variables seed (place + 1) (var + 1) xs in omega arith
-count-variables seed place var (Tuple name ip_min ip_max port_min port_max limit ∷ xs) = let rest = count-variables seed (place + 1) (var + 1) xs in omega arith
+count-variables seed place var (FlowVar name size op init min max step restart ∷ xs) = let rest = count-variables seed (place + 1) (var + 1) xs in omega arith
+count-variables seed place var (ListVar name size op step values restart ∷ xs) = let rest = count-variables seed (place + 1) (var + 1) xs in omega arith
+count-variables seed place var (RandLimit name size min max limit own restart ∷ xs) = let rest = count-variables seed (place + 1) (var + 1) xs in omega arith
+count-variables seed place var (Tuple name ip_min ip_max port_min port_max limit restart ∷ xs) = let rest = count-variables seed (place + 1) (var + 1) xs in omega arith
 count-variables seed place var (Write name at add big ∷ xs) = count-variables seed (place + 1) var xs
 count-variables seed place var (WriteMask name at cast mask shift add big ∷ xs) = count-variables seed (place + 1) var xs
 count-variables seed place var (FixIpv4 at ∷ xs) = count-variables seed (place + 1) var xs
@@ -55,13 +55,13 @@ count-variables seed place var (Trim name ∷ xs) = count-variables seed (place 
 givens-operands : (var : ℕ) (xs : List Instruction) → AllByRecursion IsRawInstr xs → (count : ℕ) → var_after var xs ≤ count
     → AllByRecursion (λ (g : Given). IsOperand count g.operand) (givens var xs)
 givens-operands var [] raw count room = tt
-givens-operands var (FlowVar name size op init min max step ∷ xs) raw count room =
+givens-operands var (FlowVar name size op init min max step restart ∷ xs) raw count room =
     let above = var_after-above (var + 1) xs in ((omega arith, raw.0), givens-operands (var + 1) xs raw.1 count room)
-givens-operands var (ListVar name size op step values ∷ xs) raw count room =
+givens-operands var (ListVar name size op step values restart ∷ xs) raw count room =
     let above = var_after-above (var + 1) xs in ((omega arith, raw.0), givens-operands (var + 1) xs raw.1 count room)
-givens-operands var (RandLimit name size min max limit seed ∷ xs) raw count room =
+givens-operands var (RandLimit name size min max limit seed restart ∷ xs) raw count room =
     let above = var_after-above (var + 1) xs in ((omega arith, raw.0), givens-operands (var + 1) xs raw.1 count room)
-givens-operands var (Tuple name ip_min ip_max port_min port_max limit ∷ xs) raw count room =
+givens-operands var (Tuple name ip_min ip_max port_min port_max limit restart ∷ xs) raw count room =
     let above = var_after-above (var + 1) xs in
     ((omega arith, inr (inr (inl refl))), ((omega arith, inr (inl refl)), givens-operands (var + 1) xs raw.1 count room))
 givens-operands var (Write name place add big ∷ xs) raw count room = givens-operands var xs raw.1 count room
@@ -105,10 +105,10 @@ write-in count write (Some at) known = (known at, tt)
 -- the instructions of each step
 step-in : (layers : Layers) (count : ℕ) (names : List Given) (x : Instruction) → AllByRecursion (λ (g : Given). IsOperand count g.operand) names → IsRawInstr x
     → AllByRecursion (IsIn count) (instrs_of (step layers names x))
-step-in layers count names (FlowVar name size op init min max step) known raw = tt
-step-in layers count names (ListVar name size op step values) known raw = tt
-step-in layers count names (RandLimit name size min max limit seed) known raw = tt
-step-in layers count names (Tuple name ip_min ip_max port_min port_max limit) known raw = tt
+step-in layers count names (FlowVar name size op init min max step restart) known raw = tt
+step-in layers count names (ListVar name size op step values restart) known raw = tt
+step-in layers count names (RandLimit name size min max limit seed restart) known raw = tt
+step-in layers count names (Tuple name ip_min ip_max port_min port_max limit restart) known raw = tt
 step-in layers count names (Write name place add big) known raw =
     by_operand count (operand_of names name) (λ from. write_at (λ at. WriteInstr from at add big) (byte_at layers from.size place)) (named-operand count name names known)
     (λ operand is. write-in count (λ at. WriteInstr operand at add big) (byte_at layers operand.size place) (λ at. (is.0, is.1)))

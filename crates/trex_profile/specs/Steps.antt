@@ -1,5 +1,5 @@
 -- What a stream's instructions come to in a program (own).
-use Rattle.std.specs.Prelude.{ℕ, ◌+◌, ◌==◌, nat_lt, List, [], ◌∷◌, ◌++◌, map, Option, None, Some, option_map, option_to_list, unwrap_or, if◌then◌else◌}
+use Rattle.std.specs.Prelude.{ℕ, ◌+◌, ◌==◌, nat_lt, Bool, List, [], ◌∷◌, ◌++◌, map, Option, None, Some, option_map, option_to_list, unwrap_or, if◌then◌else◌}
 use Rattle.trex_layers.specs.declared.places.Layers.{Layers}
 use Rattle.trex_fields.specs.declared.places.Place.{Place}
 use Rattle.trex_fields.specs.Fields.{place_by_name}
@@ -9,23 +9,19 @@ use Rattle.trex_vm.specs.declared.instr.Instr.{Instr}
 use Rattle.trex_vm.specs.declared.instr.Instr.TheVariants.{Write as WriteInstr, WriteMask as WriteMaskInstr, FixIpv4 as FixIpv4Instr, FixL4, Trim as TrimInstr}
 use Rattle.trex_profile.specs.declared.raw.RawPlace.{RawPlace}
 use Rattle.trex_profile.specs.declared.raw.RawPlace.TheVariants.{At, Named}
-use Rattle.trex_profile.specs.declared.step.Step.{Step}
-use Rattle.trex_profile.specs.declared.step.Step.TheVariants.{Makes, Does, MissesField, FixesHeader, FixesSegment}
+use Rattle.trex_profile.specs.declared.instructions.steps.Step.{Step}
+use Rattle.trex_profile.specs.declared.instructions.steps.Step.TheVariants.{Makes, Does, MissesField, FixesHeader, FixesSegment}
 use Rattle.trex_profile.specs.Instruction.{Instruction, FlowVar, ListVar, RandLimit, Tuple, Write, WriteMask, FixIpv4, FixHw, Trim}
 use Rattle.trex_profile.specs.Given.{Given, givens, operand_of}
 
 -- The variable of the instruction at a place, where it makes one. A random number is drawn with the stream's seed, or with one of
 -- the instruction's own.
 abbrev pub variable_at : ℕ → ℕ → Instruction → Option Variable
-variable_at seed place (FlowVar name size op init min max step) = Some (Counter op size init min max step seed place)
-variable_at seed place (ListVar name size op step values) = Some (ListOf op size step values seed place)
-variable_at seed place (RandLimit name size min max limit own) = Some (RandLimitVariable size min max limit own place)
-variable_at seed place (Tuple name ip_min ip_max port_min port_max limit) = Some (TupleVariable ip_min ip_max port_min port_max limit)
-variable_at seed place (Write name at add big) = None
-variable_at seed place (WriteMask name at cast mask shift add big) = None
-variable_at seed place (FixIpv4 at) = None
-variable_at seed place (FixHw l2 l3 l4) = None
-variable_at seed place (Trim name) = None
+variable_at seed place (FlowVar name size op init min max step restart) = Some (Counter op size init min max step seed place)
+variable_at seed place (ListVar name size op step values restart) = Some (ListOf op size step values seed place)
+variable_at seed place (RandLimit name size min max limit own restart) = Some (RandLimitVariable size min max limit own place)
+variable_at seed place (Tuple name ip_min ip_max port_min port_max limit restart) = Some (TupleVariable ip_min ip_max port_min port_max limit)
+variable_at seed place _ = None
 
 -- the variables of instructions, in order, where the first instruction stands at a place
 abbrev pub variables_from : ℕ → ℕ → List Instruction → List Variable
@@ -36,6 +32,14 @@ variables_from seed place (x ∷ xs) = option_to_list (variable_at seed place x)
 abbrev pub byte_in : ℕ → Option Place → Option ℕ
 byte_in size None = None
 byte_in size (Some field) = if nat_lt field.size size then None else Some field.at
+
+-- whether the variable of an instruction restarts at each visit of its stream, where it makes one
+abbrev pub restart_of : Instruction → Option Bool
+restart_of (FlowVar name size op init min max step restart) = Some restart
+restart_of (ListVar name size op step values restart) = Some restart
+restart_of (RandLimit name size min max limit own restart) = Some restart
+restart_of (Tuple name ip_min ip_max port_min port_max limit restart) = Some restart
+restart_of _ = None
 
 -- the byte at which a write of so many bytes begins, in a packet with these headers
 abbrev pub byte_at : Layers → ℕ → RawPlace → Option ℕ
@@ -54,10 +58,10 @@ fixes l2 l3 l4 = if l4 == 11 then FixesSegment l2 l3 Udp else if l4 == 13 then F
 
 -- what an instruction comes to in a packet with these headers, where the name of the variable that it uses is given
 abbrev pub resolved : Layers → List Given → Instruction → Option Step
-resolved layers names (FlowVar name size op init min max step) = Some Makes
-resolved layers names (ListVar name size op step values) = Some Makes
-resolved layers names (RandLimit name size min max limit seed) = Some Makes
-resolved layers names (Tuple name ip_min ip_max port_min port_max limit) = Some Makes
+resolved layers names (FlowVar name size op init min max step restart) = Some Makes
+resolved layers names (ListVar name size op step values restart) = Some Makes
+resolved layers names (RandLimit name size min max limit seed restart) = Some Makes
+resolved layers names (Tuple name ip_min ip_max port_min port_max limit restart) = Some Makes
 resolved layers names (Write name place add big) =
     option_map (λ from. write_at (λ at. WriteInstr from at add big) (byte_at layers from.size place)) (operand_of names name)
 resolved layers names (WriteMask name place cast mask shift add big) =

@@ -1,5 +1,5 @@
 -- A stream of the sample breaks no rule on its values.
-use Rattle.std.proofs.Common.{◌≡◌, ℕ, ◌+◌, ◌*◌, ◌%◌, ◌^◌, ◌==◌, ◌≤◌, Bool, true, false, nat_le, nat_lt, List, length, None, refl, arith}
+use Rattle.std.proofs.Common.{◌≡◌, ℕ, ◌+◌, ◌-◌, ◌*◌, ◌%◌, ◌^◌, ◌==◌, ◌≤◌, Bool, true, false, nat_le, nat_lt, List, length, None, refl, arith}
 use Rattle.std.proofs.lemmas.Bool.Decides.{nat_tests}
 use Rattle.trex_layers.specs.declared.sizes.TheConstants.{LONGEST_PACKET}
 use Rattle.trex_layers.specs.Layers.{parsed}
@@ -28,7 +28,7 @@ names-kept layers seed = refl
 
 -- no rule on what they do is broken, where the template has the headers
 does-kept : (layers : Layers) (seed : ℕ) (bytes : List ℕ) → IsHeaded bytes
-    → does_rules (variables_from seed 0 instructions) bytes false (steps_of layers instructions) ≡ None
+    → does_rules (variables_from seed 0 instructions) bytes None (steps_of layers instructions) ≡ None
 unfolding does_rules length_rules place_rules
 does-kept layers seed bytes headed =
     let long : 42 ≤ length bytes = headed.long in
@@ -36,7 +36,8 @@ does-kept layers seed bytes headed =
     let port : nat_lt (length bytes) 36 ≡ false = grind (arith, nat_tests) in
     let header : nat_le 34 (length bytes) ≡ true = grind (arith, nat_tests) in
     let segment : nat_le 42 (length bytes) ≡ true = grind (arith, nat_tests) in
-    simp (address, port, header, segment, headed.version, headed.protocol)
+    let room : length bytes - 0 ≡ length bytes = omega arith in
+    simp (room, address, port, header, segment, headed.version, headed.protocol)
 
 -- no rule on times is broken
 times-kept : (s : Stream) → length_wrong s.template ≡ false → (s.rate.value == 0) ≡ false → nat_lt (numerator s) s.rate.value ≡ false → no_packets s.mode ≡ false

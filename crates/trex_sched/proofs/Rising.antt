@@ -214,6 +214,9 @@ entries_numbers chain d is =
     let spread = offset_spread run.leg.period run.leg.mode k (has_packets chain run is reached) in
     omega arith)
 
+pub entries_places : (chain : Chain) (d : ℕ) → IsChain chain → AllByRecursion (λ slot. slot.in_run ≤ slot.number) (entries chain d)
+entries_places chain d is = each_entry chain d (λ slot. slot.in_run ≤ slot.number) is (λ run k reached. omega arith)
+
 pub entries_streams : (chain : Chain) (d : ℕ) → IsChain chain → AllByRecursion (λ slot. Has (map (λ leg. leg.stream) chain.legs) slot.stream) (entries chain d)
 entries_streams chain d is =
     each_entry chain d (λ slot. Has (map (λ leg. leg.stream) chain.legs) slot.stream) is (λ run k reached. stream_of chain.legs run.place run.leg reached.at_place)

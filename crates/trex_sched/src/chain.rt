@@ -1,3 +1,5 @@
+// The streams that follow one another.
+
 use crate::{Mode, Period};
 
 /// A stream as a chain visits it.

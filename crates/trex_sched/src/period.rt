@@ -1,3 +1,5 @@
+// The time between two packets of a burst, and the times of a burst's packets.
+
 ghost use Rattle.std.specs.Prelude.{◌≡◌, ◌<◌, ◌≤◌, ◌^◌};
 
 /// The least numerator, in nanoseconds, that is too great for a period.

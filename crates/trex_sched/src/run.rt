@@ -1,3 +1,5 @@
+// A visit of a chain to a leg.
+
 use crate::Leg;
 
 /// One visit of a chain to a leg: one run of the leg's stream.

@@ -33,7 +33,7 @@ pub(crate) fn begin(chain: &ChainSpec, place: usize, visit: u64, t: u64, limit: 
     })
 }
 
-// The chain ends with this run, because its leg's action count is reached.
+/// Whether the chain ends with this run, because its leg's action count is reached.
 fn stops(run: &Run) -> bool
     requires { run.now.visit < 2 ^ 63 }
     ensures { result ≡ stops_with run.now }
@@ -55,7 +55,7 @@ pub(crate) fn next_run(chain: &ChainSpec, run: &Run, duration: u64) -> Option<Ru
     follow(chain, run, run.start + lasts, duration)
 }
 
-// The run after a run that ends at time `t`, where it starts below the duration.
+/// The run after a run that ends at time `t`, where it starts below the duration.
 fn follow(chain: &ChainSpec, run: &Run, t: u64, duration: u64) -> Option<Run>
     requires visit { run.now.visit < 2 ^ 63 }
     requires end { t ≤ duration }
@@ -70,7 +70,7 @@ fn follow(chain: &ChainSpec, run: &Run, t: u64, duration: u64) -> Option<Run>
     }
 }
 
-// The least number of steps from a number to one that leaves the core's number as the remainder.
+/// The least number of steps from a number to one that leaves the core's number as the remainder.
 fn steps_to(number: u64, core: u64, cores: u64) -> u64
     requires core { core < cores }
     requires cores { cores ≤ 64 }

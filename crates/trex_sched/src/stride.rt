@@ -33,7 +33,7 @@ pub(crate) struct Stride {
     step: Split,
 }
 
-// Where packet `k` of a leg's run stands in its burst.
+/// Where packet `k` of a leg's run stands in its burst.
 fn place_of(leg: &Leg, k: u64) -> Place
     requires packets { HasPackets leg.now.mode }
     requires within { (n : ℕ) → size leg.now ≡ Some n → k < n }

@@ -70,7 +70,7 @@ pub(crate) fn span_below(period: &Period, mode: &Mode, limit: u64) -> Option<u64
     }
 }
 
-// So many bursts and a time more, where that is below the limit. A product that could leave 128 bits is never taken.
+/// So many bursts and a time more, where that is below the limit. A product that could leave 128 bits is never taken.
 fn bursts_below(bursts: u64, burst: u128, more: u128, limit: u64) -> Option<u64>
     requires few { bursts < 3 * 10 ^ 18 }
     requires short { more < 2 ^ 127 }
@@ -86,7 +86,7 @@ fn bursts_below(bursts: u64, burst: u128, more: u128, limit: u64) -> Option<u64>
     time_below(u128::from(bursts) * burst + more, limit)
 }
 
-// A time, where it is below the limit.
+/// A time, if it is below the limit.
 fn time_below(time: u128, limit: u64) -> Option<u64>
     ensures { result ≡ below limit time }
 {

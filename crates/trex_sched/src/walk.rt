@@ -22,7 +22,7 @@ struct Cursor {
     stride: Option<Stride>,
 }
 
-// The core's first packet from packet `from` of the cursor's run on, in this run or a later one.
+/// Goes to the core's first packet from packet `from` of the cursor's run on, in this run or a later one.
 fn seek(chain: &ChainSpec, core: u64, cores: u64, duration: u64, cursor: &mut Cursor, mut from: u64)
     requires chain { IsChain (chain_of chain.now) }
     requires core { core < cores }
@@ -54,7 +54,7 @@ fn seek(chain: &ChainSpec, core: u64, cores: u64, duration: u64, cursor: &mut Cu
     }
 }
 
-// From the slot at which a cursor stands to the core's next one.
+/// Goes from the slot at which a cursor stands to the core's next one.
 fn step(chain: &ChainSpec, core: u64, cores: u64, duration: u64, cursor: &mut Cursor, slot: &Slot)
     requires chain { IsChain (chain_of chain.now) }
     requires core { core < cores }
@@ -136,7 +136,7 @@ impl<'p> Walk<'p> {
     }
 }
 
-// Where a core's walk over a chain begins.
+/// Where a core's walk over a chain begins.
 fn first_of(chain: &ChainSpec, core: u64, cores: u64, duration: u64) -> Cursor
     requires chain { IsChain (chain_of chain.now) }
     requires core { core < cores }

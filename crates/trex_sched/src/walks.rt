@@ -92,7 +92,7 @@ impl<'p> Walks<'p> {
     }
 }
 
-// One more walk, with its head where it has a packet.
+/// Adds a walk, with its head if it has a packet.
 fn add<'p>(
     walks: &mut Vec<Walk<'p>>,
     heads: &mut BinaryHeap<Reverse<Head>>,
@@ -111,7 +111,7 @@ fn add<'p>(
     Ok(())
 }
 
-// The next packet of the walk at a place, which is passed. The walk's head is put back where it has a further packet.
+/// The next packet of the walk at a place, which is passed. The walk's head is put back if it has a further packet.
 fn pass(walks: &mut Vec<Walk>, heads: &mut BinaryHeap<Reverse<Head>>, place: usize) -> Option<Slot>
     requires place { place < vec_len walks.old }
     requires room { heap_len heads.old < heap_capacity heads.old }
@@ -133,7 +133,7 @@ fn pass(walks: &mut Vec<Walk>, heads: &mut BinaryHeap<Reverse<Head>>, place: usi
     slot
 }
 
-// A head goes into a heap that has room for it.
+/// Puts a head into a heap that has room for it.
 fn put_back(heads: &mut BinaryHeap<Reverse<Head>>, head: Head)
     requires room { heap_len heads.old < heap_capacity heads.old }
     requires heap { IsHeap least_first (heap_items heads.old) }

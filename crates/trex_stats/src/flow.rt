@@ -1,3 +1,5 @@
+// What is kept of a flow, packet by packet.
+
 ghost use Rattle.std.specs.Prelude.{◌≡◌, ◌+◌, ◌^◌, ◌<◌, ◌≤◌, [], ◌∷◌, ◌++◌, List, length, OnOk, OnErr};
 
 use crate::arrival::Arrival;

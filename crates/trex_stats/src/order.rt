@@ -1,3 +1,5 @@
+// What is kept of the sequence numbers of a flow: which came, and how many of them again or late.
+
 ghost use Rattle.std.specs.Prelude.{◌≡◌, ◌+◌, ◌^◌, ◌<◌, ◌≤◌, [], ◌∷◌, ◌++◌, List, length, nat_lt, OnOk, OnErr};
 ghost use Rattle.std.specs.List.{list_any};
 ghost use Rattle.trex_stats.specs.Arrivals.{missing_of};
@@ -59,7 +61,7 @@ impl Order {
     }
 }
 
-// Whether a greater number came before.
+/// Whether a greater number came before.
 fn is_late(seen: &SeqRanges, number: u64) -> bool
     ensures { result ≡ list_any (nat_lt number) seen.now }
 {

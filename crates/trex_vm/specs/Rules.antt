@@ -1,9 +1,10 @@
 -- Which programs are accepted: one test a rule, over the variables, the template's bytes and the instructions. Own.
-use Rattle.std.specs.Prelude.{ℕ, ◌+◌, ◌-◌, ◌/◌, ◌==◌, Bool, false, not, ◌&&◌, ◌||◌, nat_le, nat_lt, if◌then◌else◌, List, length, map, slice_index, is_some}
+use Rattle.std.specs.Prelude.{ℕ, ◌+◌, ◌-◌, ◌/◌, ◌==◌, Bool, false, not, ◌&&◌, ◌||◌, nat_le, nat_lt, List, length, map, slice_index, Option, is_some}
 use Rattle.std.specs.List.{list_any, count_by}
 use Rattle.std.specs.Option.{option_map_or}
 use Rattle.trex_layers.specs.declared.sizes.TheConstants.{SHORTEST_PACKET}
-use Rattle.trex_stamp.specs.declared.header.TheConstants.{SHORTEST_STAMPED, STAMP_SIZE}
+use Rattle.trex_stamp.specs.declared.header.Version.{Version}
+use Rattle.trex_stamp.specs.Stamp.{shortest_stamped, size_of}
 use Rattle.trex_vars.specs.Variable.{Variable}
 use Rattle.trex_vars.specs.Bounds.{least, greatest}
 use Rattle.trex_vm.specs.declared.effect.Fix.{Fix}
@@ -19,9 +20,17 @@ use Rattle.trex_vm.specs.Packet.{trimmed}
 abbrev pub least_length : List Variable → List Instr → ℕ → ℕ
 least_length vars instrs whole = trimmed (map least vars) instrs whole
 
+-- the bytes of the latency header, where there is one
+abbrev pub header_size : Option Version → ℕ
+header_size stamp = option_map_or size_of stamp 0
+
 -- the bytes of the shortest packet in front of its latency header
-abbrev pub room_of : ℕ → Bool → ℕ
-room_of shortest stamped = if stamped then shortest - STAMP_SIZE else shortest
+abbrev pub room_of : ℕ → Option Version → ℕ
+room_of shortest stamp = shortest - header_size stamp
+
+-- the shortest packet is too short to end in the latency header
+abbrev pub no_room_for_stamp : ℕ → Option Version → Bool
+no_room_for_stamp shortest stamp = option_map_or (λ version. nat_lt shortest (shortest_stamped version)) stamp false
 
 -- the instruction cuts the packet
 abbrev pub is_trim : Instr → Bool
@@ -68,11 +77,11 @@ overwrites_kind_of instr other = option_map_or (overwrites_kind instr) (fix_of o
 abbrev pub overwrites_header_kind : List Instr → Instr → Bool
 overwrites_header_kind instrs instr = list_any (overwrites_kind_of instr) instrs
 
--- a program is accepted: at most one trim, and that in its range, a stamped packet not shorter than the shortest, and no instruction that breaks a rule
-abbrev pub accepts : List Variable → List ℕ → Bool → List Instr → Bool
-accepts vars template stamped instrs =
+-- a program is accepted: at most one trim, and that in its range, room for the latency header, and no instruction that breaks a rule
+abbrev pub accepts : List Variable → List ℕ → Option Version → List Instr → Bool
+accepts vars template stamp instrs =
     let shortest = least_length vars instrs (length template) in
-    let room = room_of shortest stamped in
-    nat_le (count_by is_trim instrs) 1 && not (list_any (trim_wrong vars (length template)) instrs) && not (stamped && nat_lt shortest SHORTEST_STAMPED)
+    let room = room_of shortest stamp in
+    nat_le (count_by is_trim instrs) 1 && not (list_any (trim_wrong vars (length template)) instrs) && not (no_room_for_stamp shortest stamp)
     && not (list_any (writes_past room) instrs) && not (list_any (misses_header template room) instrs)
     && not (list_any (overwrites_header_kind instrs) instrs)

@@ -6,7 +6,7 @@ ghost use Rattle.trex_vars.specs.Variable.{variable_of};
 ghost use Rattle.trex_vars.specs.Bounds.{least, greatest};
 ghost use Rattle.trex_vm.specs.Write.{number_in};
 ghost use Rattle.trex_vm.specs.Effect.{writes_byte};
-ghost use Rattle.trex_vm.specs.Rules.{least_length, room_of, is_trim, trim_wrong, writes_past, has_ipv4, finds_header, misses_header, overwrites_kind, overwrites_kind_of, overwrites_header_kind, accepts};
+ghost use Rattle.trex_vm.specs.Rules.{least_length, room_of, no_room_for_stamp, is_trim, trim_wrong, writes_past, has_ipv4, finds_header, misses_header, overwrites_kind, overwrites_kind_of, overwrites_header_kind, accepts};
 ghost use Rattle.trex_vm.specs.Program.{TakesFrom};
 
 use crate::effect::Fix;
@@ -14,7 +14,7 @@ use crate::fix::{PROTOCOL, least_segment, protocol_of, words_to_bytes};
 use crate::instr::{Instr, Operand};
 use crate::write::part_of;
 use trex_layers::SHORTEST_PACKET;
-use trex_stamp::{SHORTEST_STAMPED, STAMP_SIZE};
+use trex_stamp::Version;
 use trex_vars::VarSpec;
 
 const VERSION: u8 = 4;
@@ -51,13 +51,22 @@ pub fn least_length(vars: &[VarSpec], instrs: &[Instr], template: usize) -> usiz
 }
 
 /// The bytes of the shortest packet in front of its latency header.
-pub fn room_of(shortest: usize, stamped: bool) -> usize
-    ensures { result ≡ room_of shortest stamped }
+pub fn room_of(shortest: usize, stamp: Option<Version>) -> usize
+    ensures { result ≡ room_of shortest stamp }
 {
-    if stamped {
-        shortest.saturating_sub(STAMP_SIZE)
-    } else {
-        shortest
+    match stamp {
+        Some(version) => shortest.saturating_sub(version.size()),
+        None => shortest,
+    }
+}
+
+/// Whether the shortest packet is too short to end in its latency header, with an Ethernet header before it.
+pub fn no_room_for_stamp(shortest: usize, stamp: Option<Version>) -> bool
+    ensures { result ≡ no_room_for_stamp shortest stamp }
+{
+    match stamp {
+        Some(version) => shortest < version.shortest_stamped(),
+        None => false,
     }
 }
 
@@ -224,18 +233,23 @@ fn any_overwrites_header_kind(instrs: &[Instr]) -> bool
 }
 
 /// Whether the instructions break no rule.
-pub(crate) fn accepts(vars: &[VarSpec], template: &[u8], stamped: bool, instrs: &[Instr]) -> bool
+pub(crate) fn accepts(
+    vars: &[VarSpec],
+    template: &[u8],
+    stamp: Option<Version>,
+    instrs: &[Instr],
+) -> bool
     requires { All (TakesFrom (length vars.now)) instrs.now }
-    ensures { result ≡ accepts (map variable_of vars.now) template.now stamped instrs.now }
+    ensures { result ≡ accepts (map variable_of vars.now) template.now stamp instrs.now }
 {
     if trims(instrs) > 1 || any_trim_wrong(vars, template.len(), instrs) {
         return false;
     }
     let shortest = least_length(vars, instrs, template.len());
-    if stamped && shortest < SHORTEST_STAMPED {
+    if no_room_for_stamp(shortest, stamp) {
         return false;
     }
-    let room = room_of(shortest, stamped);
+    let room = room_of(shortest, stamp);
     if any_writes_past(room, instrs) || any_misses_header(template, room, instrs) {
         return false;
     }

@@ -55,8 +55,8 @@ const ENDLESS_BURSTS: [u64; 170] = [
     193, 195, 196, 197, 198, 200, 201, 202, 203, 205, 206, 207, 208, 210, 211, 212, 213, 215, 216,
 ];
 
-// On each number of cores, core after core sends the packets whose numbers leave it as the remainder, later ones later, at their
-// streams' times, and all cores together send all of them.
+/// On each number of cores, core after core sends the packets whose numbers leave it as the remainder, later ones later, at their
+/// streams' times, and all cores together send all of them.
 fn sends_at(rt: &impl Abort, chain: &ChainSpec, duration: u64, times: &[&[u64]], all: usize)
     requires chain { IsChain (chain_of chain.now) }
     requires duration { duration ≤ 10 ^ 18 }
