@@ -1,4 +1,4 @@
-// The texts that are printed: the report, the lines of flows, and the line of each answer.
+//! The texts that are printed: the report, the lines of flows, and the line of each answer.
 #![tactic(auto)]
 
 mod capture;

@@ -1,3 +1,5 @@
+// The lines that are printed by themselves.
+
 ghost use Rattle.trex_io.specs.Texts.{Writes};
 ghost use Rattle.trex_report.specs.Texts.{accepted_line, line_text};
 

@@ -1,3 +1,5 @@
+// Names, as they are printed.
+
 ghost use Rattle.std.specs.Prelude.{◌≡◌};
 ghost use Rattle.trex_report.specs.Names.{fault_name, rule_name, option_name};
 

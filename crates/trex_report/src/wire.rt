@@ -1,3 +1,5 @@
+// The line on a wire.
+
 ghost use Rattle.trex_io.specs.Texts.{Writes};
 ghost use Rattle.trex_report.specs.Texts.{wire_line};
 

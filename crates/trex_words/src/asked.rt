@@ -1,3 +1,5 @@
+// What the command words may ask for, and what may be wrong with them.
+
 /// A request.
 #[derive(Clone, Copy, Debug, PartialEq, Eq)]
 pub enum Asked {

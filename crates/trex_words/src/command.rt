@@ -1,7 +1,9 @@
+// The commands, by the first word.
+
 ghost use Rattle.std.specs.Prelude.{◌≡◌};
 ghost use Rattle.trex_words.specs.Asked.{command_of};
 
-// A command, the first word.
+/// A command, the first word.
 #[derive(Clone, Copy, Debug, PartialEq, Eq)]
 pub enum Command {
     Run,
@@ -12,7 +14,7 @@ pub enum Command {
     Help,
 }
 
-// The command of a word, if it is one.
+/// The command of a word, if it is one.
 pub fn command_of(word: &str) -> Option<Command>
     ensures { result ≡ command_of word.now }
 {

@@ -1,3 +1,5 @@
+// The help text.
+
 ghost use Rattle.std.specs.Prelude.{◌≡◌};
 ghost use Rattle.trex_words.specs.Help.{help_text};
 

@@ -1,4 +1,4 @@
-// What the command words ask for.
+//! What the command words ask for.
 #![tactic(auto)]
 
 mod asked;

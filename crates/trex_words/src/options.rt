@@ -1,9 +1,11 @@
+// The options of each command, with their limits.
+
 ghost use Rattle.std.specs.Prelude.{◌≡◌};
 ghost use Rattle.trex_words.specs.Asked.{limits_of, options_of, schedule_options, run_options, sample_options, wire_options};
 
 use crate::command::Command;
 
-// The least and the greatest value of an option, and its value where it isn't given.
+/// The least and the greatest value of an option, and its value where it isn't given.
 #[derive(Clone, Copy, Debug, PartialEq, Eq)]
 pub struct Limits {
     pub least: u64,
@@ -47,7 +49,7 @@ pub const STREAMS: Limits = Limits {
     default: 16,
 };
 
-// Those of a share in millionths, such as that of lost records.
+/// The limits of a share in millionths, such as that of lost records.
 pub const MILLIONTHS: Limits = Limits {
     least: 0,
     greatest: 1_000_000,
@@ -60,7 +62,7 @@ pub const DELAY: Limits = Limits {
     default: 0,
 };
 
-// The limits of an option of a run or of a sample.
+/// The limits of an option of a run or of a sample.
 fn schedule_limits(name: &str) -> Option<Limits>
     ensures { result ≡ limits_of schedule_options name.now }
 {
@@ -75,7 +77,7 @@ fn schedule_limits(name: &str) -> Option<Limits>
     }
 }
 
-// The limits of an option of a run.
+/// The limits of an option of a run.
 fn run_limits(name: &str) -> Option<Limits>
     ensures { result ≡ limits_of run_options name.now }
 {
@@ -86,7 +88,7 @@ fn run_limits(name: &str) -> Option<Limits>
     }
 }
 
-// The limits of an option of a sample.
+/// The limits of an option of a sample.
 fn sample_limits(name: &str) -> Option<Limits>
     ensures { result ≡ limits_of sample_options name.now }
 {
@@ -99,7 +101,7 @@ fn sample_limits(name: &str) -> Option<Limits>
     }
 }
 
-// The limits of an option of a wire.
+/// The limits of an option of a wire.
 fn wire_limits(name: &str) -> Option<Limits>
     ensures { result ≡ limits_of wire_options name.now }
 {
@@ -114,7 +116,7 @@ fn wire_limits(name: &str) -> Option<Limits>
     }
 }
 
-// The limits of an option of a command.
+/// The limits of an option of a command.
 pub fn limits_of(command: Command, name: &str) -> Option<Limits>
     ensures { result ≡ limits_of (options_of command) name.now }
 {
