@@ -11,7 +11,7 @@ use Rattle.trex_profile.specs.declared.instructions.names.GivenName.{GivenName}
 use Rattle.trex_profile.specs.declared.raw.RawInstr.{RawInstr}
 use Rattle.trex_profile.specs.Given.{Given, given_of, given_by, givens, is_given, next_var, is_variable, variable_name, is_empty_name}
 use Rattle.trex_profile.specs.InstrRules.{name_rule}
-use Rattle.trex_profile.specs.Instruction.{Instruction, instruction, FlowVar, ListVar, RandLimit, Tuple, Write, WriteMask, FixIpv4, FixHw, Trim}
+use Rattle.trex_profile.specs.Instruction.{Instruction, instruction, FlowVar, ListVar, RandLimit, Tuple, Write, WriteMask, FixIpv4, FixHw, FixL6, Trim}
 use Rattle.trex_profile.specs.Steps.{variable_at, variables_from}
 
 -- the place of the variable after those of some instructions
@@ -81,6 +81,7 @@ given_by-names names var (Write name place add big) = refl
 given_by-names names var (WriteMask name place cast mask shift add big) = refl
 given_by-names names var (FixIpv4 at) = refl
 given_by-names names var (FixHw l2 l3 l4) = refl
+given_by-names names var (FixL6 l2 l4) = refl
 given_by-names names var (Trim name) = refl
 
 -- the rule on names by what was given before and what is given here

@@ -5,7 +5,7 @@ use Rattle.trex_vars.specs.Check.{fault_of}
 use Rattle.trex_vars.specs.Variable.{Variable}
 use Rattle.trex_vars.proofs.BoundsLemmas.{value-between}
 use Rattle.trex_vm.specs.Program.{AreWithin}
-use Rattle.trex_profile.specs.Instruction.{Instruction, FlowVar, ListVar, RandLimit, Tuple, Write, WriteMask, FixIpv4, FixHw, Trim}
+use Rattle.trex_profile.specs.Instruction.{Instruction, FlowVar, ListVar, RandLimit, Tuple, Write, WriteMask, FixIpv4, FixHw, FixL6, Trim}
 use Rattle.trex_profile.specs.Packets.{index_of, values_at}
 use Rattle.trex_profile.specs.Steps.{restart_of, variables_from}
 
@@ -20,6 +20,7 @@ restarts-long seed place (Write name at add big ∷ xs) = restarts-long seed (pl
 restarts-long seed place (WriteMask name at cast mask shift add big ∷ xs) = restarts-long seed (place + 1) xs
 restarts-long seed place (FixIpv4 at ∷ xs) = restarts-long seed (place + 1) xs
 restarts-long seed place (FixHw l2 l3 l4 ∷ xs) = restarts-long seed (place + 1) xs
+restarts-long seed place (FixL6 l2 l4 ∷ xs) = restarts-long seed (place + 1) xs
 restarts-long seed place (Trim name ∷ xs) = restarts-long seed (place + 1) xs
 
 -- the values of variables without a fault lie between their ends

@@ -1,6 +1,5 @@
 -- The groups of rules on a stream's values, and the one list that they make.
 use Rattle.std.proofs.Common.{◌≡◌, nat_lt, ◌==◌, List, [], ◌∷◌, ◌++◌, length, Option, Some, None, refl, ◌∙◌}
-use Rattle.trex_layers.specs.Layers.{parsed}
 use Rattle.trex_vm.specs.Rules.{no_room_for_stamp}
 use Rattle.trex_profile.specs.declared.rule.Rule.TheVariants.{BadLength, RateZero, RateTooHigh, CountZero, NoRoomForStamp}
 use Rattle.trex_profile.specs.Given.{givens}
@@ -28,7 +27,7 @@ pub value_rules-list : (s : Stream) → value_rules s ≡ first (value_list s)
 unfolding time_rules names_rules length_rules place_rules does_rules value_rules
 value_rules-list s =
     let times = rule BadLength (length_wrong s.template) ∷ rule RateZero (s.rate.value == 0) ∷ rule RateTooHigh (nat_lt (numerator s) s.rate.value) ∷ rule CountZero (no_packets s.mode) ∷ [] in
-    let names = first_each (name_rule s.instrs) 0 s.instrs ∷ first_each (range_rule s.seed) 0 s.instrs ∷ first_each (unknown_rule (parsed s.template) (givens 0 s.instrs)) 0 s.instrs ∷ [] in
+    let names = first_each (name_rule s.instrs) 0 s.instrs ∷ first_each (range_rule s.seed) 0 s.instrs ∷ first_each (unknown_rule s.template (givens 0 s.instrs)) 0 s.instrs ∷ [] in
     let lengths = first_each (twice_rule (steps s)) 0 (steps s) ∷ first_each (trim_rule (variables s) (length s.template)) 0 (steps s)
     ∷ rule NoRoomForStamp (no_room_for_stamp (shortest s) (stamp_version s)) ∷ [] in
     let places = first_each field_rule 0 (steps s) ∷ first_each (room_rule (room s)) 0 (steps s) ∷ first_each (fix_rule s.template (room s)) 0 (steps s) ∷ first_each (shape_rule (program s)) 0 (steps s) ∷ [] in

@@ -1,7 +1,6 @@
 -- The rules on a stream's instructions (own). Each is looked at over all of them in order, before the next rule.
 use Rattle.std.specs.Prelude.{ℕ, ◌==◌, ◌&&◌, ◌||◌, not, Bool, true, false, List, [], ◌∷◌, length, take, Option, None, Some, is_none, is_some}
 use Rattle.std.specs.List.{list_any}
-use Rattle.trex_layers.specs.declared.places.Layers.{Layers}
 use Rattle.trex_stamp.specs.declared.header.Version.{Version}
 use Rattle.trex_vars.specs.Variable.{Variable}
 use Rattle.trex_vars.specs.Check.{fault_of}
@@ -34,8 +33,8 @@ abbrev pub range_rule : ℕ → ℕ → Instruction → Option Breach
 range_rule seed place x = rule_there VarRange place (has_fault (variable_at seed place x))
 
 -- an instruction uses the name of a variable that isn't given
-abbrev pub unknown_rule : Layers → List Given → ℕ → Instruction → Option Breach
-unknown_rule layers names place x = rule_there UnknownVariable place (is_none (resolved layers names x))
+abbrev pub unknown_rule : List ℕ → List Given → ℕ → Instruction → Option Breach
+unknown_rule template names place x = rule_there UnknownVariable place (is_none (resolved template names x))
 
 -- a test holds of an instruction of the step
 abbrev pub does : (Instr → Bool) → Step → Bool
@@ -84,11 +83,11 @@ abbrev pub shape_rule : List Instr → ℕ → Step → Option Breach
 shape_rule program place s = rule_there WriteOnShape place (does (overwrites_header_kind program) s)
 
 -- the rules on the names of instructions, in their order
-unfoldable pub names_rules : Layers → ℕ → List Instruction → Option Breach
-names_rules layers seed instrs = first (
+unfoldable pub names_rules : List ℕ → ℕ → List Instruction → Option Breach
+names_rules template seed instrs = first (
     first_each (name_rule instrs) 0 instrs
     ∷ first_each (range_rule seed) 0 instrs
-    ∷ first_each (unknown_rule layers (givens 0 instrs)) 0 instrs
+    ∷ first_each (unknown_rule template (givens 0 instrs)) 0 instrs
     ∷ [])
 
 -- the rules on the packets' lengths, in their order

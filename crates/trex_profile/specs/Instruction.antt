@@ -4,7 +4,7 @@ use Rattle.trex_fields.specs.Bytes.{IsSize}
 use Rattle.trex_vars.specs.declared.spec.Op.{Op}
 use Rattle.trex_profile.specs.declared.raw.RawPlace.{RawPlace}
 use Rattle.trex_profile.specs.declared.raw.RawInstr.{RawInstr}
-use Rattle.trex_profile.specs.declared.raw.RawInstr.TheVariants.{FlowVar as RawFlowVar, ListVar as RawListVar, RandLimit as RawRandLimit, Tuple as RawTuple, Write as RawWrite, WriteMask as RawWriteMask, FixIpv4 as RawFixIpv4, FixHw as RawFixHw, Trim as RawTrim}
+use Rattle.trex_profile.specs.declared.raw.RawInstr.TheVariants.{FlowVar as RawFlowVar, ListVar as RawListVar, RandLimit as RawRandLimit, Tuple as RawTuple, Write as RawWrite, WriteMask as RawWriteMask, FixIpv4 as RawFixIpv4, FixHw as RawFixHw, FixL6 as RawFixL6, Trim as RawTrim}
 
 pub data Instruction : Type 0 where
   -- name, size, operation, init, min, max, step, whether it restarts at each visit
@@ -23,6 +23,8 @@ pub data Instruction : Type 0 where
   FixIpv4 : ℕ → Instruction
   -- place and length of the header, number of what stands behind it
   FixHw : ℕ → ℕ → ℕ → Instruction
+  -- place of the IPv6 header, number of what stands behind it
+  FixL6 : ℕ → ℕ → Instruction
   -- name
   Trim : List ℕ → Instruction
 
@@ -36,6 +38,7 @@ instruction (RawWrite name place add big) = Write name place add big
 instruction (RawWriteMask name place cast mask shift add big) = WriteMask name place cast mask shift add big
 instruction (RawFixIpv4 at) = FixIpv4 at
 instruction (RawFixHw l2 l3 l4) = FixHw l2 l3 l4
+instruction (RawFixL6 l2 l4) = FixL6 l2 l4
 instruction (RawTrim name) = Trim name
 
 -- the ranges that the reading of an instruction keeps
@@ -48,4 +51,5 @@ IsRawInstr (Write name place add big) = Unit {0}
 IsRawInstr (WriteMask name place cast mask shift add big) = IsSize cast × (negsuc 62 ≤ℤ shift) × (shift ≤ℤ pos 63)
 IsRawInstr (FixIpv4 at) = Unit {0}
 IsRawInstr (FixHw l2 l3 l4) = (l4 ≡ 11) ⊎ ((l4 ≡ 13) ⊎ (l4 ≡ 17))
+IsRawInstr (FixL6 l2 l4) = (l4 ≡ 11) ⊎ (l4 ≡ 13)
 IsRawInstr (Trim name) = Unit {0}

@@ -1,7 +1,6 @@
 -- The packets of a stream (own).
 use Rattle.std.specs.Prelude.{◌≡◌, ℕ, Bool, List, ◌++◌, map, Option, option_map, IfSome, if◌then◌else◌}
 use Rattle.std.specs.List.{filter_map, zip}
-use Rattle.trex_layers.specs.Layers.{parsed}
 use Rattle.trex_stamp.specs.declared.header.Stamp.{Stamp}
 use Rattle.trex_stamp.specs.declared.header.Version.{Version}
 use Rattle.trex_stamp.specs.Stamp.{stamp_bytes}
@@ -36,7 +35,7 @@ values_of s number place = values_at (variables s) (restarts s) number place
 
 -- The program of a stream: its other instructions, in order, each name resolved. A field lies where the headers of the template are.
 abbrev pub program : Stream → List Instr
-program s = program_of (steps_of (parsed s.template) s.instrs)
+program s = program_of (steps_of s.template s.instrs)
 
 -- the version of a stream's latency headers, where it has a flow
 abbrev pub stamp_version : Stream → Option Version

@@ -2,7 +2,6 @@
 use Rattle.std.specs.Prelude.{ℕ, ◌+◌, ◌*◌, ◌^◌, ◌==◌, ◌||◌, nat_lt, Bool, false, List, [], ◌∷◌, length, Option, option_map}
 use Rattle.trex_sched.specs.declared.mode.Mode.{Mode}
 use Rattle.trex_sched.specs.declared.mode.Mode.TheVariants.{Continuous, SingleBurst, MultiBurst}
-use Rattle.trex_layers.specs.Layers.{parsed}
 use Rattle.trex_layers.specs.declared.sizes.TheConstants.{LONGEST_PACKET, SHORTEST_PACKET}
 use Rattle.trex_vm.specs.Rules.{least_length, room_of, no_room_for_stamp}
 use Rattle.trex_profile.specs.declared.raw.RateKind.{RateKind}
@@ -42,7 +41,7 @@ no_packets (MultiBurst per_burst ibg count) = per_burst == 0
 
 -- what a stream's instructions come to, in order
 abbrev pub steps : Stream → List Step
-steps s = steps_of (parsed s.template) s.instrs
+steps s = steps_of s.template s.instrs
 
 -- the length of a stream's shortest packet
 abbrev pub shortest : Stream → ℕ
@@ -65,7 +64,7 @@ time_rules s = first (
 unfoldable pub value_rules : Stream → Option Breach
 value_rules s = first (
     time_rules s
-    ∷ names_rules (parsed s.template) s.seed s.instrs
+    ∷ names_rules s.template s.seed s.instrs
     ∷ does_rules (variables s) s.template (stamp_version s) (steps s)
     ∷ [])
 
@@ -78,7 +77,7 @@ value_list s =
     ∷ rule CountZero (no_packets s.mode)
     ∷ first_each (name_rule s.instrs) 0 s.instrs
     ∷ first_each (range_rule s.seed) 0 s.instrs
-    ∷ first_each (unknown_rule (parsed s.template) (givens 0 s.instrs)) 0 s.instrs
+    ∷ first_each (unknown_rule s.template (givens 0 s.instrs)) 0 s.instrs
     ∷ first_each (twice_rule (steps s)) 0 (steps s)
     ∷ first_each (trim_rule (variables s) (length s.template)) 0 (steps s)
     ∷ rule NoRoomForStamp (no_room_for_stamp (shortest s) (stamp_version s))

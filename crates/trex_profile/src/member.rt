@@ -11,7 +11,6 @@ use crate::instructions::program::{parts_of, program_for};
 use crate::raw::{RawInstr, RawRate, RawStream};
 use crate::rules::times::period_of;
 use std::alloc::Global;
-use trex_layers::parse;
 use trex_sched::{Leg, Mode, Period};
 use trex_vars::VarSpec;
 use trex_vm::{Program, programs_fit};
@@ -70,8 +69,7 @@ impl Member {
         ensures spec { IfOk result (λ member. IsSpecOf (member_stream member) member.spec) }
     {
         let period = period_of(&raw)?;
-        let layers = parse(&raw.template);
-        let parts = parts_of(alloc, &layers, raw.seed, &raw.instrs)?;
+        let parts = parts_of(alloc, &raw.template, raw.seed, &raw.instrs)?;
         let program = program_for(
             alloc,
             &parts.vars,

@@ -55,7 +55,7 @@ pub struct RawRate {
 pub enum RawPlace {
     /// A byte of the packet, counted from 0.
     At(u64),
-    /// The first byte of the field of that name, as `IP.src`.
+    /// The first byte of the field of that name, as `IP.src` or `IPv6.src`.
     Named(Name),
 }
 
@@ -130,6 +130,12 @@ pub enum RawInstr {
     FixHw {
         l2: u64,
         l3: u64,
+        l4: u8,
+    },
+    /// Fixes the checksum of what stands behind the IPv6 header at `l2` (RFC 8200, section 8.1): where `l4` is 11 that of the UDP segment,
+    /// where it is 13 that of the TCP segment.
+    FixL6 {
+        l2: u64,
         l4: u8,
     },
     /// Cuts the packet to the bytes that a variable says.

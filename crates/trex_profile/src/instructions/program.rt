@@ -1,8 +1,7 @@
 // The variables and the program of a stream.
 
-ghost use Rattle.std.specs.Prelude.{◌≡◌, ◌≤◌, ◌^◌, List, All, IfOk, length, map, true};
+ghost use Rattle.std.specs.Prelude.{◌≡◌, ◌≤◌, List, All, IfOk, length, map, true};
 ghost use Rattle.std.specs.List.{filter_map};
-ghost use Rattle.trex_layers.specs.Layers.{BeginBelow};
 ghost use Rattle.trex_vars.specs.Variable.{Variable, variable_of};
 ghost use Rattle.trex_vm.specs.Program.{AreOperandsOf, AreSound, TakesFrom, program_view};
 ghost use Rattle.trex_vm.specs.Rules.{accepts};
@@ -20,7 +19,7 @@ use crate::raw::RawInstr;
 use crate::rules::lengths::length_breach;
 use crate::rules::places::place_breach;
 use std::alloc::Global;
-use trex_layers::{LONGEST_PACKET, Layers, SHORTEST_PACKET};
+use trex_layers::{LONGEST_PACKET, SHORTEST_PACKET};
 use trex_stamp::Version;
 use trex_vars::VarSpec;
 use trex_vm::{Program, least_length, room_of};
@@ -34,24 +33,24 @@ pub(crate) struct Parts {
     pub(crate) steps: Vec<Step>,
 }
 
-/// The variables of a stream and what its instructions come to in a packet with these headers, or the first rule on their names that is broken.
+/// The variables of a stream and what its instructions come to in a template, or the first rule on their names that is broken.
 #[tactic(auto, unfolding(crate::specs::InstrRules::names_rules))]
 pub(crate) fn parts_of(
     alloc: Global,
-    layers: &Layers,
+    template: &[u8],
     seed: u64,
     instrs: &[RawInstr],
 ) -> Result<Parts, StreamFault>
     requires few { length instrs.now ≤ 256 }
-    requires layers { BeginBelow (2 ^ 31) layers.now }
+    requires short { length template.now ≤ LONGEST_PACKET }
     requires ranges { All IsRawInstr (map instruction instrs.now) }
     ensures value { Gives {Y = List Variable × List Step} (λ parts. (map variable_of parts.vars.items, parts.steps.items)) result
-        (unless (names_rules layers.now seed (map instruction instrs.now))
-        (variables_from seed 0 (map instruction instrs.now), steps_of layers.now (map instruction instrs.now))) }
+        (unless (names_rules template.now seed (map instruction instrs.now))
+        (variables_from seed 0 (map instruction instrs.now), steps_of template.now (map instruction instrs.now))) }
     ensures vars { IfOk result (λ parts. map variable_of parts.vars.items ≡ variables_from seed 0 (map instruction instrs.now)) }
     ensures restart { IfOk result (λ parts. parts.restart.items ≡ filter_map restart_of (map instruction instrs.now)) }
     ensures paired { IfOk result (λ parts. length parts.restart.items ≡ length parts.vars.items) }
-    ensures steps { IfOk result (λ parts. parts.steps.items ≡ steps_of layers.now (map instruction instrs.now)) }
+    ensures steps { IfOk result (λ parts. parts.steps.items ≡ steps_of template.now (map instruction instrs.now)) }
     ensures sound { IfOk result (λ parts. AreSound (map variable_of parts.vars.items)) }
     ensures few { IfOk result (λ parts. length parts.steps.items ≤ 256) }
     ensures operands { IfOk result (λ parts. AreOperandsOf (map variable_of parts.vars.items) (program_of parts.steps.items)) }
@@ -59,7 +58,7 @@ pub(crate) fn parts_of(
 {
     let names = names_of(alloc, instrs)?;
     let vars = variables_of(alloc, seed, instrs)?;
-    let steps = steps_of(alloc, layers, &names, instrs)?;
+    let steps = steps_of(alloc, template, &names, instrs)?;
     let restart = restarts_of(alloc, instrs)?;
     Ok(Parts {
         vars,

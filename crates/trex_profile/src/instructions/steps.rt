@@ -1,23 +1,23 @@
 // What a stream's instructions come to in a program.
 
-ghost use Rattle.std.specs.Prelude.{◌≡◌, ◌≤◌, ◌^◌, length, map, IfOk};
-ghost use Rattle.trex_layers.specs.Layers.{BeginBelow};
+ghost use Rattle.std.specs.Prelude.{◌≡◌, ◌≤◌, length, map, IfOk};
 ghost use Rattle.trex_vm.specs.declared.instr.Instr.TheVariants.{Write as WriteInstr};
 ghost use Rattle.trex_profile.specs.Answer.{Gives};
 ghost use Rattle.trex_profile.specs.Given.{given_of};
 ghost use Rattle.trex_profile.specs.InstrRules.{unknown_rule};
 ghost use Rattle.trex_profile.specs.Instruction.{instruction};
 ghost use Rattle.trex_profile.specs.Order.{first_each, unless};
-ghost use Rattle.trex_profile.specs.Steps.{byte_at, write_at, fixes, resolved, step, program_of};
+ghost use Rattle.trex_profile.specs.Steps.{field_of, byte_at, write_at, fixes, l4_kind, resolved, step, program_of};
 
 use crate::fault::StreamFault;
 use crate::instructions::names::{GivenName, operand_of};
 use crate::raw::{RawInstr, RawPlace};
 use crate::rule::Rule;
 use std::alloc::Global;
-use trex_fields::place_of;
+use trex_fields::{Place, place_of};
 use trex_io::Memory;
-use trex_layers::Layers;
+use trex_ipv6::place6_of;
+use trex_layers::{LONGEST_PACKET, parse};
 use trex_vm::{Instr, L4Kind, Operand};
 
 /// What an instruction comes to, its name resolved.
@@ -41,15 +41,30 @@ pub(crate) enum Step {
     },
 }
 
-/// The byte at which a write of so many bytes begins, in a packet with these headers.
-fn byte_at(layers: &Layers, size: u8, place: &RawPlace) -> Option<usize>
-    requires { BeginBelow (2 ^ 31) layers.now }
-    ensures { result ≡ byte_at layers.now size place.now }
+/// Where the field of a name lies in a template: in an IPv6 header where the other headers don't have it.
+fn field_of(template: &[u8], name: &str) -> Option<Place>
+    requires { length template.now ≤ LONGEST_PACKET }
+    ensures { result ≡ field_of template.now name.now }
+{
+    if let Some(place) = place_of(&parse(template), name) {
+        return Some(place);
+    }
+    let field = place6_of(template, name)?;
+    Some(Place {
+        at: field.at,
+        size: field.size,
+    })
+}
+
+/// The byte of a template at which a write of so many bytes begins.
+fn byte_at(template: &[u8], size: u8, place: &RawPlace) -> Option<usize>
+    requires { length template.now ≤ LONGEST_PACKET }
+    ensures { result ≡ byte_at template.now size place.now }
 {
     match place {
         RawPlace::At(n) => Some(*n as usize),
         RawPlace::Named(name) => {
-            let field = place_of(layers, name.text())?;
+            let field = field_of(template, name.text())?;
             if field.size < usize::from(size) {
                 None
             } else {
@@ -60,11 +75,11 @@ fn byte_at(layers: &Layers, size: u8, place: &RawPlace) -> Option<usize>
 }
 
 /// The write of an operand into the packet.
-fn write_of(layers: &Layers, from: Operand, place: &RawPlace, add: i64, big: bool) -> Step
-    requires { BeginBelow (2 ^ 31) layers.now }
-    ensures { result ≡ write_at (λ at. WriteInstr from at add big) (byte_at layers.now from.size place.now) }
+fn write_of(template: &[u8], from: Operand, place: &RawPlace, add: i64, big: bool) -> Step
+    requires { length template.now ≤ LONGEST_PACKET }
+    ensures { result ≡ write_at (λ at. WriteInstr from at add big) (byte_at template.now from.size place.now) }
 {
-    match byte_at(layers, from.size, place) {
+    match byte_at(template, from.size, place) {
         Some(at) => Step::Does(Instr::Write { from, at, add, big }),
         None => Step::MissesField,
     }
@@ -90,10 +105,17 @@ fn fixes(l2: u64, l3: u64, l4: u8) -> Step
     }
 }
 
-/// What an instruction comes to in a packet with these headers, where the name of the variable that it uses is given.
-fn resolved(layers: &Layers, names: &[GivenName], instr: &RawInstr) -> Option<Step>
-    requires { BeginBelow (2 ^ 31) layers.now }
-    ensures { result ≡ resolved layers.now (map given_of names.now) (instruction instr.now) }
+/// What stands behind an IPv6 header, by its number.
+fn l4_kind(l4: u8) -> L4Kind
+    ensures { result ≡ l4_kind l4 }
+{
+    if l4 == 11 { L4Kind::Udp } else { L4Kind::Tcp }
+}
+
+/// What an instruction comes to in a template, where the name of the variable that it uses is given.
+fn resolved(template: &[u8], names: &[GivenName], instr: &RawInstr) -> Option<Step>
+    requires { length template.now ≤ LONGEST_PACKET }
+    ensures { result ≡ resolved template.now (map given_of names.now) (instruction instr.now) }
 {
     let step = match instr {
         RawInstr::Write {
@@ -101,7 +123,7 @@ fn resolved(layers: &Layers, names: &[GivenName], instr: &RawInstr) -> Option<St
             place,
             add,
             big,
-        } => write_of(layers, operand_of(names, name)?, place, *add, *big),
+        } => write_of(template, operand_of(names, name)?, place, *add, *big),
         RawInstr::WriteMask {
             name,
             place,
@@ -112,7 +134,7 @@ fn resolved(layers: &Layers, names: &[GivenName], instr: &RawInstr) -> Option<St
             big,
         } => {
             let from = operand_of(names, name)?;
-            match byte_at(layers, *cast, place) {
+            match byte_at(template, *cast, place) {
                 Some(at) => Step::Does(Instr::WriteMask {
                     from,
                     at,
@@ -127,6 +149,10 @@ fn resolved(layers: &Layers, names: &[GivenName], instr: &RawInstr) -> Option<St
         }
         RawInstr::FixIpv4 { at } => Step::Does(Instr::FixIpv4 { at: *at as usize }),
         RawInstr::FixHw { l2, l3, l4 } => fixes(*l2, *l3, *l4),
+        RawInstr::FixL6 { l2, l4 } => Step::Does(Instr::FixL6 {
+            ip: *l2 as usize,
+            kind: l4_kind(*l4),
+        }),
         RawInstr::Trim { name } => Step::Does(Instr::Trim {
             from: operand_of(names, name)?,
         }),
@@ -135,22 +161,22 @@ fn resolved(layers: &Layers, names: &[GivenName], instr: &RawInstr) -> Option<St
     Some(step)
 }
 
-/// What instructions come to in a packet with these headers, or the rule that each variable's name is given.
+/// What instructions come to in a template, or the rule that each variable's name is given.
 pub(crate) fn steps_of(
     alloc: Global,
-    layers: &Layers,
+    template: &[u8],
     names: &[GivenName],
     instrs: &[RawInstr],
 ) -> Result<Vec<Step>, StreamFault>
     requires few { length instrs.now ≤ 256 }
-    requires layers { BeginBelow (2 ^ 31) layers.now }
+    requires short { length template.now ≤ LONGEST_PACKET }
     ensures { Gives (λ steps. steps.items) result
-        (unless (first_each (unknown_rule layers.now (map given_of names.now)) 0 (map instruction instrs.now))
-        (map (step layers.now (map given_of names.now)) (map instruction instrs.now))) }
+        (unless (first_each (unknown_rule template.now (map given_of names.now)) 0 (map instruction instrs.now))
+        (map (step template.now (map given_of names.now)) (map instruction instrs.now))) }
 {
     let mut steps = Vec::new(alloc);
     for (at, instr) in instrs.iter().enumerate() {
-        match resolved(layers, names, instr) {
+        match resolved(template, names, instr) {
             Some(step) => steps.push(step)?,
             None => return Err(StreamFault::at_place(at as u32, Rule::UnknownVariable)),
         }

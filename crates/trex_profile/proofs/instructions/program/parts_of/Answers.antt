@@ -20,13 +20,13 @@ returns-clause-steps c =
     let instrs = map instruction c.args.instrs.now in
     let names = (unless-kept _ _ _ c.in_ok-names.ensures).1 in
     let made = (unless-kept _ _ _ c.in_ok-steps.ensures).1 in
-    sym made ∙ ap (λ (given : List Given). map (step c.args.layers.now given) instrs) (ap (map given_of) c.deref.ensures.value ∙ sym names)
+    sym made ∙ ap (λ (given : List Given). map (step c.args.template.now given) instrs) (ap (map given_of) c.deref.ensures.value ∙ sym names)
 
 pub returns-clause-operands : goal.returns-clause-operands
 returns-clause-operands c =
     let instrs = map instruction c.args.instrs.now in
     subst (λ (vars : List Variable). AreOperandsOf vars (program_of c.in_ok-steps.steps.items)) (sym (returns-clause-vars c))
-    (subst (λ (steps : List Step). AreOperandsOf (variables_from c.args.seed 0 instrs) (program_of steps)) (sym (returns-clause-steps c)) (program-operands c.args.layers.now c.args.seed instrs c.requires.ranges))
+    (subst (λ (steps : List Step). AreOperandsOf (variables_from c.args.seed 0 instrs) (program_of steps)) (sym (returns-clause-steps c)) (program-operands c.args.template.now c.args.seed instrs c.requires.ranges))
 
 -- there are as many variables as are held
 count : (seed : ℕ) (xs : List Instruction) (vars : List VarSpec) → map variable_of vars ≡ variables_from seed 0 xs
@@ -43,4 +43,4 @@ returns-clause-each c =
     let instrs = map instruction c.args.instrs.now in
     let Taken : ℕ → List Step → Type 0 = λ n steps. All (λ s. All (TakesFrom n) (instrs_of s)) steps in
     subst (λ n. Taken n c.in_ok-steps.steps.items) (count c.args.seed instrs c.in_ok-vars.vars.items (returns-clause-vars c))
-    (subst (Taken (length (variables_from c.args.seed 0 instrs))) (sym (returns-clause-steps c)) (steps-operands c.args.layers.now c.args.seed instrs c.requires.ranges))
+    (subst (Taken (length (variables_from c.args.seed 0 instrs))) (sym (returns-clause-steps c)) (steps-operands c.args.template.now c.args.seed instrs c.requires.ranges))

@@ -3,7 +3,6 @@ use Rattle.std.specs.List.{filter_map}
 use Rattle.std.specs.Option.{option_map}
 use Rattle.std.proofs.lemmas.List.Elements.{recursion_from_All}
 use Rattle.trex_stamp.specs.declared.header.Version.{Version}
-use Rattle.trex_layers.specs.Layers.{parsed}
 use Rattle.trex_stamp.specs.Stamp.{stamp_bytes}
 use Rattle.trex_vars.specs.Check.{fault_of}
 use Rattle.trex_vars.specs.Variable.{Variable, variable_of}
@@ -27,9 +26,8 @@ returns-clause-spec c =
     let s : Stream = raw_stream c.args.raw in
     let vars : map variable_of c.in_ok-parts.parts.vars.items ≡ variables s =
     c.in_ok-parts.ensures.vars ∙ ap (λ raws. variables_from c.args.raw.seed 0 (map instruction raws)) c.deref-2.ensures.value in
-    let layers : c.parse-layers.result ≡ parsed s.template = c.parse-layers.ensures.value ∙ ap parsed c.deref.ensures.value in
-    let steps = c.in_ok-parts.ensures.steps ∙ ap (λ raws. steps_of c.parse-layers.result (map instruction raws)) c.deref-2.ensures.value
-    ∙ ap (λ found. steps_of found s.instrs) layers in
+    let steps = c.in_ok-parts.ensures.steps ∙ ap (λ raws. steps_of c.deref.result.now (map instruction raws)) c.deref-2.ensures.value
+    ∙ ap (λ bytes. steps_of bytes s.instrs) c.deref.ensures.value in
     let held_vars : map variable_of c.deref-3.result.now ≡ variables s = ap (map variable_of) c.deref-3.ensures.value ∙ vars in
     let held_program : program_of c.deref-4.result.now ≡ program s = ap program_of (c.deref-4.ensures.value ∙ steps) in
     let same : (X : Type 0) (f : List Variable → List Instr → List ℕ → Option Version → X)
