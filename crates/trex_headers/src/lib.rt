@@ -13,8 +13,9 @@ mod pseudo;
 #[cfg(test)]
 mod tests;
 
-pub use building::{BuildFault, build};
+pub use building::{BuildFault, build, build_owned};
 pub use constants::{IPV6_LEN, IPV6_SOURCE_AT, TYPE_IPV6};
 pub use laws::headers_verify;
 pub use layer::{LayerView, Version};
+pub use lending::AsLayer;
 pub use network::{NetworkPlaces, network_places};

@@ -1,5 +1,5 @@
 -- What is read of a run's capture: the packets of a stream with a flow came as they were sent.
-use Rattle.std.proofs.Common.{◌≡◌, ℕ, zero, suc, ◌+◌, ◌*◌, ◌%◌, ◌^◌, ◌==◌, ◌<◌, ◌≤◌, Bool, true, false, cond, List, [], ◌∷◌, ◌++◌, length, map, take, slice_get, Option, None, Some, option_map, IfSome, inl, inr, refl, sym, ap, ◌∙◌, subst, arith}
+use Rattle.std.proofs.Common.{◌≡◌, ◌≢◌, ℕ, zero, suc, ◌+◌, ◌*◌, ◌/◌, ◌^◌, ◌==◌, ◌<◌, ◌≤◌, Bool, true, false, cond, List, [], ◌∷◌, ◌++◌, length, map, take, slice_get, Option, None, Some, option_map, IfSome, inl, inr, refl, sym, ap, ◌∙◌, subst, arith}
 use Rattle.std.proofs.Math.Nat.{mod-eq_of_lt}
 use Rattle.std.proofs.lemmas.Bool.{cases_Bool}
 use Rattle.std.proofs.lemmas.Bool.Decides.{nat_tests}
@@ -8,9 +8,11 @@ use Rattle.std.specs.Option.{option_map_or}
 use Rattle.trex_core.specs.Plan.{frame_at, packet_bytes}
 use Rattle.trex_io.specs.Seen.{Seen}
 use Rattle.trex_pcap.specs.Writing.{AllFit, seen_of}
-use Rattle.trex_profile.specs.declared.raw.Flow.{Flow}
-use Rattle.trex_profile.specs.Packets.{EndsInStamp, packet_of, sequence_in, stamp_with}
-use Rattle.trex_profile.specs.Stream.{IsFlow, Stream}
+use Rattle.trex_profile.specs.declared.flow.Flow.{Flow}
+use Rattle.trex_profile.specs.Flow.{IsFlow, sequence_of, stamp_with}
+use Rattle.trex_profile.specs.Packets.{EndsInStamp, packet_of}
+use Rattle.trex_profile.specs.Stream.{Stream}
+use Rattle.trex_profile.proofs.FlowLemmas.{stamp_with-fits}
 use Rattle.trex_sched.specs.declared.slot.Slot.{Slot}
 use Rattle.trex_sched.specs.Numbers.{AreNumbered, of_stream}
 use Rattle.trex_stamp.specs.declared.header.Stamp.{Stamp}
@@ -67,14 +69,17 @@ abbrev pub AreFound : Type 0
 AreFound = (s : Stamp) (front : List ℕ) → IsStamp s → (s.version ≡ Two → s.sequence / 2 ^ 48 ≢ 0xab01) → stamp_of (front ++ stamp_bytes s) ≡ Some s
 
 -- a number below 2^32 stands in either version's header as it is
-sequence-few : (version : Version) (number : ℕ) → number < 2 ^ 32 → sequence_in version number ≡ number
+sequence-few : (version : Version) (number : ℕ) → number < 2 ^ 32 → sequence_of version number ≡ number
 sequence-few One number few = mod-eq_of_lt few
 sequence-few Two number few = refl
 
 -- a header of a flow holds such a number, and isn't taken for one of version 1
 header_found : (flow : Flow) (front : List ℕ) (number time : ℕ) → AreFound → IsFlow flow → number < 2 ^ 32 → time < 2 ^ 64
     → stamp_of (front ++ stamp_bytes (stamp_with flow number time)) ≡ Some (record { version = flow.version; flow = flow.number; sequence = number; time = time })
-header_found flow front number time found is few early = ?
+header_found flow front number time found is few early =
+    let same = sequence-few flow.version number few in
+    found (stamp_with flow number time) front (stamp_with-fits flow number time is (omega arith) early) (λ two begins. omega (arith, same, begins))
+    ∙ ap (λ n. Some (record { version = flow.version; flow = flow.number; sequence = n; time = time })) same
 
 -- a packet of the stream counts as it was sent
 own_arrival : (p : List Stream) (base : ℕ) (flow : Flow) (s : Stream) (slot : Slot) → AreFound → slice_get p slot.stream ≡ Some s → s.flow ≡ Some flow → IsFlow flow

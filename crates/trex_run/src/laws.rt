@@ -4,7 +4,7 @@ ghost use Rattle.std.specs.Prelude.{◌≡◌, ℕ, List, None, Some, length, sl
 ghost use Rattle.trex_pcap.specs.Reading.{IsCapture};
 ghost use Rattle.trex_io.specs.Seen.{Seen};
 ghost use Rattle.trex_profile.specs.Stream.{Stream};
-ghost use Rattle.trex_profile.specs.declared.raw.Flow.{Flow as AFlow};
+ghost use Rattle.trex_profile.specs.declared.flow.Flow.{Flow as AFlow};
 ghost use Rattle.trex_stats.specs.Arrivals.{line_of};
 ghost use Rattle.trex_stats.specs.Counts.{arrivals};
 ghost use Rattle.trex_stats.specs.Laws.{clean_line};

@@ -7,6 +7,7 @@ use crate::Leg;
 pub struct Run {
     /// The leg's place in the chain.
     pub place: usize,
+    /// The leg.
     pub leg: Leg,
     /// The number of earlier runs of the leg.
     pub visit: u64,

@@ -19,7 +19,7 @@ pub(crate) struct Delays {
 impl Delays {
     ghost use Rattle.trex_stats.specs.Kept.{AreDelays};
 
-    /// Those of no packets.
+    /// What is kept of no packets.
     pub(crate) fn new() -> Delays
         ensures delays { AreDelays result [] }
         ensures empty { (result.early ≡ 0) × (result.timely ≡ 0) }

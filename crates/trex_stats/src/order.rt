@@ -20,7 +20,7 @@ pub(crate) struct Order {
 }
 
 impl Order {
-    /// That of no packets.
+    /// What is kept of no packets.
     pub(crate) fn new(alloc: Global) -> Order
         ensures order { AreOrder result [] }
         ensures empty { (result.seen ≡ []) × (result.duplicates ≡ 0) × (result.reordered ≡ 0) }
@@ -32,7 +32,7 @@ impl Order {
         }
     }
 
-    /// Counts the number of one more packet. After want of memory nothing is changed.
+    /// Counts the number of one more packet. Out of memory, nothing is changed.
     pub(crate) fn add(&mut self, number: u64) -> Result<(), Memory>
         requires { length self.old.seen + self.old.duplicates + self.old.reordered < 2 ^ 32 }
         ensures kept { OnOk result ((ps : List Arrival) (a : Arrival) → AreOrder self.old ps → a.sequence ≡ number

@@ -41,7 +41,7 @@ impl SeqRanges {
         }
     }
 
-    /// Takes in a number, and answers whether it is new. After want of memory the set is as before.
+    /// Takes in a number, and answers whether it is new. Out of memory, the set is as before.
     pub fn insert(&mut self, number: u64) -> Result<bool, Memory>
         requires { length self.old < 2 ^ 64 - 1 }
         ensures new { IfOk result (λ new. new ≡ not (has self.old number)) }

@@ -72,7 +72,7 @@ impl Stats {
     }
 
     /// Counts one more record, of this time in ns, these captured bytes and this original length. It counts for a flow where its
-    /// packet is whole and ends in a stamp. After want of memory the counts are as before.
+    /// packet is whole and ends in a stamp. Out of memory, the counts are as before.
     pub fn add(&mut self, time: u64, bytes: &[u8], original: u32) -> Result<(), Memory>
         requires few { self.old.records < 200000000 }
         requires short { length bytes.now ≤ 262144 }

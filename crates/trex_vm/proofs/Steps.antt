@@ -23,11 +23,11 @@ use Rattle.trex_vm.specs.declared.effect.Span.{Span}
 use Rattle.trex_vm.specs.declared.instr.Instr.{Instr}
 use Rattle.trex_vm.specs.declared.instr.Instr.TheVariants.{Write, WriteMask}
 use Rattle.trex_vm.specs.Effect.{end_of, write_of, fix_of, changed, span_of, writes_byte}
-use Rattle.trex_vm.specs.Fix.{with_checksum, header_length, header_at, written_sum, least_segment, protocol_of, sum_place, left_for_segment, segment_length, segment_fits, segment_at, pseudo_header, field_of, fixed, header_of, ip_version, protocol_place}
+use Rattle.trex_vm.specs.Fix.{with_checksum, network_length, header_length, header_at, written_sum, least_segment, protocol_of, sum_place, left_for_segment, segment_length, segment_fits, segment_at, pseudo_header, field_of, fixed, header_of, ip_version, protocol_place}
 use Rattle.trex_vm.specs.Write.{bytes_in, sum_in, shifted, masked, number_at}
 use Rattle.trex_vm.specs.Packet.{after, after_all}
 use Rattle.trex_vm.specs.Cover.{IsWithin, IsOfPseudoHeader, Covers, CoversByte, CoversSegment, FixVerifies, HeaderVerifies}
-use Rattle.trex_vm.specs.Rules.{writes_past, network_length, number_of, has_network, finds_header, misses_header}
+use Rattle.trex_vm.specs.Rules.{writes_past, number_of, has_network, finds_header, misses_header}
 use Rattle.trex_sum.proofs.ChecksumLemmas.{Completes-plain}
 use Rattle.trex_vm.proofs.Fixed.{places, Completes-written_sum, HoldsField-header_at, HoldsField-segment_at, with_checksum-verifies, segment_fits-tells, number-same, pseudo_header-same, sum_place-within}
 

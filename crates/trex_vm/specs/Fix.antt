@@ -5,6 +5,7 @@ use Rattle.byteorder.specs.Endian.{big_bytes, big_number}
 use Rattle.trex_fields.specs.Bytes.{put}
 use Rattle.trex_sum.specs.Checksum.{sum_of, fold_of, ones_for_zero}
 use Rattle.trex_layers.specs.declared.constants.TheConstants.{PROTOCOL_TCP, PROTOCOL_UDP, TCP_LEN, UDP_LEN}
+use Rattle.trex_headers.specs.declared.constants.TheConstants.{IPV6_LEN}
 use Rattle.trex_headers.specs.declared.layer.Version.{Version as IpVersion}
 use Rattle.trex_headers.specs.declared.layer.Version.TheVariants.{V4, V6}
 use Rattle.trex_headers.specs.Network.{network_of}
@@ -21,9 +22,15 @@ with_checksum written part field bytes =
     let zeroed = put field (0 ∷ 0 ∷ []) bytes in
     put field (big_bytes 2 (written (65535 - fold_of (sum_of (part zeroed))))) zeroed
 
--- the length of the IPv4 header at a place, from its lower four bits (RFC 791, section 3.1)
+-- the length of an IP header, by its first byte: IPv4's lower four bits count words of four bytes (RFC 791, section 3.1), IPv6's is fixed
+-- (RFC 8200, section 3)
+abbrev pub network_length : IpVersion → ℕ → ℕ
+network_length V4 first = first % 16 * 4
+network_length V6 first = IPV6_LEN
+
+-- the length of the IPv4 header at a place
 abbrev pub header_length : List ℕ → ℕ → ℕ
-header_length bytes at = slice_index bytes at % 16 * 4
+header_length bytes at = network_length V4 (slice_index bytes at)
 
 -- the IPv4 header at a place (RFC 791, section 3.1)
 unfoldable pub header_at : ℕ → List ℕ → List ℕ

@@ -1,9 +1,8 @@
 -- Which programs are accepted: one test a rule, over the variables, the template's bytes and the instructions. Own.
-use Rattle.std.specs.Prelude.{ℕ, ◌+◌, ◌-◌, ◌*◌, ◌/◌, ◌%◌, ◌==◌, Bool, false, not, ◌&&◌, ◌||◌, nat_le, nat_lt, List, length, map, slice_index, Option, is_some}
+use Rattle.std.specs.Prelude.{ℕ, ◌+◌, ◌-◌, ◌/◌, ◌==◌, Bool, false, not, ◌&&◌, ◌||◌, nat_le, nat_lt, List, length, map, slice_index, Option, is_some}
 use Rattle.std.specs.List.{list_any, count_by}
 use Rattle.std.specs.Option.{option_map_or}
 use Rattle.trex_layers.specs.declared.sizes.TheConstants.{SHORTEST_PACKET}
-use Rattle.trex_headers.specs.declared.constants.TheConstants.{IPV6_LEN}
 use Rattle.trex_headers.specs.declared.layer.Version.{Version as IpVersion}
 use Rattle.trex_headers.specs.declared.layer.Version.TheVariants.{V4, V6}
 use Rattle.trex_headers.specs.Network.{network_of}
@@ -16,7 +15,7 @@ use Rattle.trex_vm.specs.declared.effect.Fix.TheVariants.{Header, Segment}
 use Rattle.trex_vm.specs.declared.instr.Instr.{Instr}
 use Rattle.trex_vm.specs.declared.instr.Operand.{Operand}
 use Rattle.trex_vm.specs.Effect.{end_of, write_of, fix_of, trim_of, writes_byte}
-use Rattle.trex_vm.specs.Fix.{header_of, least_segment, protocol_of, protocol_place}
+use Rattle.trex_vm.specs.Fix.{header_of, least_segment, network_length, protocol_of, protocol_place}
 use Rattle.trex_vm.specs.Write.{number_in}
 use Rattle.trex_vm.specs.Packet.{trimmed}
 
@@ -56,12 +55,6 @@ writes_past room instr = option_map_or (λ span. nat_lt room (end_of span)) (wri
 abbrev pub number_of : IpVersion → ℕ
 number_of V4 = 4
 number_of V6 = 6
-
--- the length of an IP header, by its first byte: IPv4's lower four bits count words of four bytes (RFC 791, section 3.1), IPv6's is fixed
--- (RFC 8200, section 3)
-abbrev pub network_length : IpVersion → ℕ → ℕ
-network_length V4 first = first % 16 * 4
-network_length V6 first = IPV6_LEN
 
 -- an IP header stands at a place and ends within the room: it has the version's number, and not fewer bytes than without options
 abbrev pub has_network : IpVersion → List ℕ → ℕ → ℕ → Bool

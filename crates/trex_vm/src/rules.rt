@@ -6,7 +6,8 @@ ghost use Rattle.trex_vars.specs.Variable.{variable_of};
 ghost use Rattle.trex_vars.specs.Bounds.{least, greatest};
 ghost use Rattle.trex_vm.specs.Write.{number_in};
 ghost use Rattle.trex_vm.specs.Effect.{writes_byte};
-ghost use Rattle.trex_vm.specs.Rules.{least_length, room_of, no_room_for_stamp, is_trim, trim_wrong, writes_past, number_of, network_length, has_network, finds_header, misses_header, overwrites_kind, overwrites_kind_of, overwrites_header_kind, accepts};
+ghost use Rattle.trex_vm.specs.Fix.{network_length};
+ghost use Rattle.trex_vm.specs.Rules.{least_length, room_of, no_room_for_stamp, is_trim, trim_wrong, writes_past, number_of, has_network, finds_header, misses_header, overwrites_kind, overwrites_kind_of, overwrites_header_kind, accepts};
 ghost use Rattle.trex_vm.specs.Program.{TakesFrom};
 
 use crate::effect::Fix;

@@ -1,4 +1,4 @@
-use Rattle.std.proofs.Common.{◌≡◌, ◌<◌, ◌≤◌, ◌^◌, ◌==◌, List, length, map, take, Option, None, IfSome, ap, subst, ◌∙◌, arith}
+use Rattle.std.proofs.Common.{◌≡◌, ◌≤◌, ◌==◌, List, length, map, take, Option, None, IfSome, ap, subst, ◌∙◌, arith}
 use Rattle.std.proofs.lemmas.List.{length-map, length-take}
 use Rattle.std.proofs.lemmas.List.Sums.{count_by-le-length, length-filter}
 use Rattle.trex_core.specs.Plan.{frame_at, schedule}
@@ -6,8 +6,9 @@ use Rattle.trex_io.specs.Seen.{Seen}
 use Rattle.trex_pcap.specs.Reading.{IsCapture}
 use Rattle.trex_pcap.specs.Writing.{capture_of}
 use Rattle.trex_profile.specs.Packets.{EndsInStamp}
-use Rattle.trex_profile.specs.declared.raw.Flow.{Flow}
-use Rattle.trex_profile.specs.Stream.{IsFlow, Stream}
+use Rattle.trex_profile.specs.declared.flow.Flow.{Flow}
+use Rattle.trex_profile.specs.Flow.{IsFlow}
+use Rattle.trex_profile.specs.Stream.{Stream}
 use Rattle.trex_sched.specs.Numbers.{AreNumbered, of_stream}
 use Rattle.trex_sched.proofs.RunLemmas.{all_get}
 use Rattle.trex_stats.specs.Counts.{arrivals}

@@ -1,4 +1,4 @@
-use Rattle.trex_sched.proofs.Rising.{entries_below, entries_distinct, entries_numbers, entries_places, entries_rising, entries_shares, entries_streams, share_one}
+use Rattle.trex_sched.proofs.EntryOrder.{entries_below, entries_distinct, entries_numbers, entries_places, entries_rising, entries_shares, entries_streams, share_one}
 use Rattle.trex_sched.proofs.laws.entries_rise.Goals as goal
 
 pub returns-clause-rising : goal.returns-clause-rising
