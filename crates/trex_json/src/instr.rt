@@ -14,8 +14,8 @@ ghost use Rattle.trex_json.specs.Rows as row;
 use crate::binary::values_field;
 use crate::kinds::{InstrWord, an_object};
 use crate::names::{
-    bool_field, instr_field, l4_code_field, l4_code6_field, op_field, shift_field, signed_field, size_field,
-    text_field, whole_field,
+    bool_field, instr_field, l4_code_field, l4_code6_field, op_field, shift_field, signed_field,
+    size_field, text_field, whole_field,
 };
 use serde_json::Value;
 use std::alloc::Global;
