@@ -1,3 +1,3 @@
 mod Sums
 mod Lengths
-mod Verifying
+mod VerifiedHeaders
