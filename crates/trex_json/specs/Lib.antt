@@ -9,3 +9,4 @@ pub mod Shape
 pub mod Order
 pub mod Answer
 pub mod Verdict
+pub mod EntryId

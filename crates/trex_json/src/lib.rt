@@ -4,6 +4,7 @@
 mod addresses;
 mod binary;
 mod entry;
+mod entry_id;
 mod fault;
 mod instr;
 mod kinds;
@@ -14,6 +15,7 @@ mod order;
 mod reading;
 mod stream;
 
+pub use entry_id::read_entry_id;
 pub use fault::ProfileFault;
 pub use order::shape_rules_in_order;
 pub use reading::{LONGEST_TEXT, read_profile};

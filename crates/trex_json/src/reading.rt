@@ -35,7 +35,7 @@ fn read_value(alloc: Global, text: &[u8]) -> Result<Option<Value>, Memory>
 }
 
 /// The JSON value of a profile's text, whose numbers count as texts, where it has one.
-fn read_json(alloc: Global, text: &[u8]) -> Result<Option<Value>, Memory>
+pub(crate) fn read_json(alloc: Global, text: &[u8]) -> Result<Option<Value>, Memory>
     ensures { IfOk result (λ value. option_map view value ≡ json_of text.now) }
 {
     let quoted = quote_numbers(alloc, text)?;
