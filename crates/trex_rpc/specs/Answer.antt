@@ -1,5 +1,5 @@
 -- What a line of a session does to the table, and what it is answered with. Own.
-use Rattle.std.specs.Prelude.{◌≡◌, ℕ, ◌==◌, ◌+◌, Bool, true, false, List, [], ◌∷◌, ◌++◌, length, remove, codes, Option, None, Some, option_and_then, Result, Ok, Err, if◌then◌else◌, nat_lt, nat_le}
+use Rattle.std.specs.Prelude.{◌≡◌, ℕ, ◌==◌, ◌+◌, Bool, true, false, List, [], ◌∷◌, ◌++◌, length, remove, codes, Option, None, Some, option_and_then, Result, Ok, Err, IfOk, OnErr, if◌then◌else◌, nat_lt, nat_le}
 use Rattle.std.specs.List.{before_first, after_first, position_or_len, slice_split}
 use Rattle.std.specs.Str.{bytes_eq, is_utf8}
 use Rattle.trex_decimal.specs.Decimal.{whole_of}
@@ -91,14 +91,14 @@ got_by (Some id) table = got_text (text_of id table) table
 abbrev pub got : Table → List ℕ → Answer
 got table text = got_by (id_of text) table
 
--- a run is started, unless a fault of its words is told; words that begin with `run` ask for nothing but a run
-abbrev pub started_by : Table → Result Asked Usage → Answer
-started_by table (Ok (Run ask)) = record { table = table; reply = Start ask }
-started_by table (Ok _) = says table []
-started_by table (Err usage) = says table (usage_line usage)
+-- the reply to a start: the run, or what is wrong with its words; words that begin with `run` ask for nothing but a run
+abbrev pub start_reply : Result Asked Usage → Reply
+start_reply (Ok (Run ask)) = Start ask
+start_reply (Ok _) = Text []
+start_reply (Err usage) = Text (usage_line usage)
 
 abbrev pub started : Table → List (List ℕ) → Answer
-started table words = started_by table (asked (codes "run" ∷ words))
+started table words = record { table = table; reply = start_reply (asked (codes "run" ∷ words)) }
 
 -- no such command
 abbrev pub unknown : Table → Answer
@@ -132,12 +132,14 @@ answer_text table line =
 unfoldable pub answer : Table → List ℕ → Answer
 answer table line = if is_utf8 line then answer_text table line else says table (codes "refused: NotText\n")
 
--- a call left this table and gave this reply, as an answer says
-abbrev pub Does : Answer → Table → Reply → Type 0
-Does a table reply = (table ≡ a.table) × (reply ≡ a.reply)
-
 -- the run that a reply asks for lies within the ranges of a run
 abbrev pub IsReply : Reply → Type 0
 IsReply (Text text) = Unit {0}
 IsReply (Start ask) = IsRunAsk ask
 IsReply Quit = Unit {0}
+
+-- A call does what an answer says, and where there is no memory the table stays.
+pub record GivesAnswer {E : Type 0} (answer : Answer) (old new : Table) (result : Result Reply E) : Type 0 where
+  pub does : IfOk result (λ reply. (new ≡ answer.table) × (reply ≡ answer.reply))
+  pub kept : OnErr result (new ≡ old)
+  pub ranges : IfOk result IsReply

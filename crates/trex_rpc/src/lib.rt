@@ -2,11 +2,17 @@
 #![tactic(auto)]
 
 mod bound;
+mod entry;
 mod line_reader;
 mod reply;
+mod session;
+mod starting;
 mod stop;
+mod stream_text;
+mod words;
 
 pub use bound::{Bound, MOST_BYTES};
 pub use line_reader::{LONGEST_LINE, LineFault, LineReader};
 pub use reply::{Reply, ReplyLine};
+pub use session::Session;
 pub use stop::{Stop, Unanswered};
