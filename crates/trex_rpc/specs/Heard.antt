@@ -1,11 +1,17 @@
 -- What is heard of an input: its lines, up to `quit` or to the line that breaks a bound. Own.
-use Rattle.std.specs.Prelude.{ℕ, ◌+◌, ◌&&◌, Bool, List, [], ◌∷◌, length, codes, Option, None, Some, if◌then◌else◌, nat_lt, nat_le}
+use Rattle.std.specs.Prelude.{ℕ, ◌+◌, ◌&&◌, Bool, true, false, not, List, [], ◌∷◌, ◌++◌, length, nat_eq, codes, Option, None, Some, if◌then◌else◌, nat_lt, nat_le}
 use Rattle.std.specs.List.{concat}
 use Rattle.std.specs.Str.{bytes_eq}
 use Rattle.trex_rpc.specs.declared.bound.Bound.{Bound}
 use Rattle.trex_rpc.specs.declared.bound.Bound.TheVariants.{LineTooLong, TooMuch}
 use Rattle.trex_rpc.specs.declared.bound.TheConstants.{MOST_BYTES}
+use Rattle.trex_rpc.specs.declared.line_reader.LineFault.{LineFault}
+use Rattle.trex_rpc.specs.declared.line_reader.LineFault.TheVariants.{Fault, Memory, TooLong}
 use Rattle.trex_rpc.specs.declared.line_reader.TheConstants.{LONGEST_LINE}
+use Rattle.trex_rpc.specs.declared.stop.Stop.{Stop}
+use Rattle.trex_rpc.specs.declared.stop.Stop.TheVariants.{ReadFault, Memory as NoMemory, Bad}
+use Rattle.trex_rpc.specs.declared.talking.Judged.{Judged}
+use Rattle.trex_rpc.specs.declared.talking.Judged.TheVariants.{Quits, Breaks, Goes}
 use Rattle.trex_rpc.specs.Lines.{is_feed}
 
 -- a byte before the first of these pieces
@@ -62,3 +68,24 @@ heard_from before (piece ∷ pieces) =
 -- what is heard of an input
 unfoldable pub heard : List ℕ → Heard
 heard input = heard_from 0 (cut input)
+
+-- nothing was read, since the input is at its end
+abbrev pub is_end : List ℕ → Bool → Bool
+is_end line ended = nat_eq (length line) 0 && not ended
+
+-- the piece of a line, which a line feed ended or not
+abbrev pub piece_of : List ℕ → Bool → List ℕ
+piece_of line true = line ++ 10 ∷ []
+piece_of line false = line
+
+-- what becomes of a line that is within its bound, where so many bytes came before it
+abbrev pub judged : List ℕ → Bool → ℕ → Judged
+judged line ended before =
+    if is_quit line then Quits
+    else (if nat_lt MOST_BYTES (before + length (piece_of line ended)) then Breaks else Goes (before + length (piece_of line ended)))
+
+-- why a session stops where no line was read
+abbrev pub unheard : LineFault → ℕ → ℕ → Stop
+unheard Fault before line = ReadFault
+unheard Memory before line = NoMemory
+unheard TooLong before line = Bad (if nat_le (before + LONGEST_LINE) MOST_BYTES then LineTooLong else TooMuch) line

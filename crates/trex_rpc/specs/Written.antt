@@ -29,6 +29,12 @@ module _ {O N : Type 0} (held : O → Option (List ℕ)) (faults : O → ℕ) (t
   Answered capture reply (Err NotesFault) = Wrote held out out' capture × WrotePart told notes notes' reply × Rises count notes notes'
   Answered capture reply (Err Memory) = (out' ≡ out) × (notes' ≡ notes)
 
+-- What was written of a reply to the notes alone: all, or a part where they failed.
+abbrev pub Noted : {N : Type 0} → (N → Option (List ℕ)) → (N → ℕ) → N → N → List ℕ → Result (Unit {0}) Unanswered → Type 0
+Noted told count notes notes' reply (Ok u) = Wrote told notes notes' reply
+Noted told count notes notes' reply (Err NotesFault) = WrotePart told notes notes' reply × Rises count notes notes'
+Noted told count notes notes' reply (Err _) = ⊥
+
 module _ {O N : Type 0} (runs : Runs) (held : O → Option (List ℕ)) (told : N → Option (List ℕ)) (out out' : O) (notes notes' : N) where
   -- A session that ended: all captures and all replies were written, and the input was read past `quit` or to its end.
   pub record Spoken (h : Heard) (left : Option (List ℕ)) : Type 0 where
