@@ -117,10 +117,10 @@ pub fn talk<R: Runner, S: Source, O: Sink, N: Sink>(
         }
         let total = match judge(text, ended, before) {
             Judged::Quits => {
-                return match respond(alloc, runner, &mut session, text, out, notes) {
-                    Ok(()) => Ok(()),
-                    Err(fault) => Err(stop_of(fault)),
-                };
+                if let Err(fault) = respond(alloc, runner, &mut session, text, out, notes) {
+                    return Err(stop_of(fault));
+                }
+                return Ok(());
             }
             Judged::Breaks => {
                 return Err(Stop::Bad {
