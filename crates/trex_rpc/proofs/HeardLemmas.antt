@@ -1,18 +1,15 @@
 -- What is heard of an input, line by line.
-use Rattle.std.proofs.Common.{◌≡◌, ℕ, ◌+◌, ◌<◌, ◌≤◌, Bool, true, false, not, ◌&&◌, List, [], ◌∷◌, ◌++◌, length, codes, Option, None, Some, nat_lt, nat_le, cond, if◌then◌else◌, refl, sym, ap, ◌∙◌, subst, arith}
+use Rattle.std.proofs.Common.{◌≡◌, ℕ, ◌+◌, ◌<◌, ◌≤◌, Bool, true, false, List, [], ◌∷◌, ◌++◌, length, codes, None, Some, nat_lt, nat_le, cond, if◌then◌else◌, refl, ap, arith}
 use Rattle.std.proofs.lemmas.Bool.Decides.{nat_tests}
 use Rattle.std.proofs.lemmas.Slice.Eq.{bytes_eq-Decides}
-use Rattle.std.specs.List.{concat}
-use Rattle.std.specs.Str.{bytes_eq}
-use Rattle.trex_rpc.specs.declared.bound.Bound.{Bound}
 use Rattle.trex_rpc.specs.declared.bound.Bound.TheVariants.{LineTooLong, TooMuch}
 use Rattle.trex_rpc.specs.declared.bound.TheConstants.{MOST_BYTES}
 use Rattle.trex_rpc.specs.declared.line_reader.TheConstants.{LONGEST_LINE}
 use Rattle.trex_rpc.specs.declared.talking.Judged.{Judged}
 use Rattle.trex_rpc.specs.declared.talking.Judged.TheVariants.{Quits, Breaks, Goes}
-use Rattle.trex_rpc.specs.Heard.{Heard, bound_of, cut, heard_from, heard_line, is_end, is_quit, judged, line_of, piece_of, silence}
+use Rattle.trex_rpc.specs.Heard.{Heard, cut, heard_from, heard_line, is_end, is_quit, judged, line_of, piece_of, silence}
 use Rattle.trex_rpc.specs.Lines.{NoFeed}
-use Rattle.trex_rpc.proofs.PieceLemmas.{Front, concat-cut, cut-front, cut-piece, line_of-piece}
+use Rattle.trex_rpc.proofs.PieceLemmas.{concat-cut, cut-front, cut-piece, line_of-piece}
 
 -- what is heard from a line on, by what becomes of it; the rest is to come after it
 abbrev pub heard_next : Judged → List ℕ → List ℕ → Heard
@@ -32,7 +29,7 @@ not_within m n test = grind (arith, nat_tests)
 -- a piece whose line is within its bound
 hears_piece : (piece line : List ℕ) (before : ℕ) (rest : List ℕ) → line_of piece ≡ line → length line ≤ LONGEST_LINE
     → heard_from before (piece ∷ cut rest)
-      ≡ heard_next (if is_quit line then Quits else (if nat_lt MOST_BYTES (before + length piece) then Breaks else Goes (before + length piece))) line rest
+    ≡ heard_next (if is_quit line then Quits else (if nat_lt MOST_BYTES (before + length piece) then Breaks else Goes (before + length piece))) line rest
 hears_piece piece line before rest is short =
     rw (is, test_false LONGEST_LINE (length line) short, concat-cut rest)
     (by_tests (is_quit line) (nat_lt MOST_BYTES (before + length piece)))
@@ -42,7 +39,7 @@ hears_piece piece line before rest is short =
 
     by_tests : (quits much : Bool) → cond quits (record { lines = line ∷ []; broken = None; rest = rest })
         (heard_line (cond much (Some TooMuch) None) line (heard_from (before + length piece) (cut rest)))
-      ≡ heard_next (cond quits Quits (cond much Breaks (Goes (before + length piece)))) line rest
+        ≡ heard_next (cond quits Quits (cond much Breaks (Goes (before + length piece)))) line rest
     by_tests true much = refl
     by_tests false true = refl
     by_tests false false = refl
@@ -69,8 +66,8 @@ hears_long piece pieces before long whole =
     (by_room (nat_le (before + LONGEST_LINE) MOST_BYTES) refl)
   where
     by_room : (room : Bool) → nat_le (before + LONGEST_LINE) MOST_BYTES ≡ room
-      → heard_line (cond room (Some LineTooLong) (cond (nat_lt MOST_BYTES (before + length piece)) (Some TooMuch) None)) (line_of piece) (heard_from (before + length piece) pieces)
-      ≡ silence (Some (cond room LineTooLong TooMuch))
+        → heard_line (cond room (Some LineTooLong) (cond (nat_lt MOST_BYTES (before + length piece)) (Some TooMuch) None)) (line_of piece) (heard_from (before + length piece) pieces)
+        ≡ silence (Some (cond room LineTooLong TooMuch))
     by_room true is = refl
     by_room false is = let past = not_within (before + LONGEST_LINE) MOST_BYTES is in rw (test_true MOST_BYTES (before + length piece) (omega arith))
 

@@ -1,11 +1,10 @@
 -- How a session stands after the lines so far, and how it ends or stops there.
-use Rattle.std.proofs.Common.{◌≡◌, ℕ, ◌+◌, ◌<◌, ◌≤◌, Bool, true, false, cond, nat_eq, nat_le, nat_lt, List, [], ◌∷◌, ◌++◌, length, take, Option, None, Some, Result, Ok, Err, IfSome, if◌then◌else◌, refl, sym, ap, ◌∙◌, subst, arith, append_assoc, length-append}
+use Rattle.std.proofs.Common.{◌≡◌, ℕ, ◌+◌, ◌<◌, ◌≤◌, Bool, true, false, cond, nat_le, nat_lt, List, [], ◌∷◌, ◌++◌, length, take, Option, None, Some, Ok, Err, IfSome, if◌then◌else◌, refl, sym, ap, ◌∙◌, subst, arith, append_assoc, length-append}
 use Rattle.std.proofs.KnownBytes.{Appends-nil}
 use Rattle.std.proofs.Math.Seq.{take-length}
 use Rattle.std.proofs.lemmas.Bool.Decides.{nat_tests}
 use Rattle.std.proofs.lemmas.List.{append-nil, take-append-le}
 use Rattle.std.specs.Io.KnownBytes.{prepend_known}
-use Rattle.trex_io.specs.Faults.{Rises}
 use Rattle.trex_io.specs.Texts.{Wrote, WrotePart, WrotePrefix}
 use Rattle.trex_io.proofs.TextLemmas.{Wrote-after, WrotePart-after, WrotePart-longer}
 use Rattle.trex_rpc.specs.declared.bound.Bound.{Bound}
@@ -14,7 +13,6 @@ use Rattle.trex_rpc.specs.declared.bound.TheConstants.{MOST_BYTES}
 use Rattle.trex_rpc.specs.declared.line_reader.LineFault.{LineFault}
 use Rattle.trex_rpc.specs.declared.line_reader.LineFault.TheVariants.{Fault, Memory, TooLong}
 use Rattle.trex_rpc.specs.declared.line_reader.TheConstants.{LONGEST_LINE}
-use Rattle.trex_rpc.specs.declared.stop.Stop.{Stop}
 use Rattle.trex_rpc.specs.declared.stop.Stop.TheVariants.{Bad}
 use Rattle.trex_rpc.specs.declared.stop.Unanswered.{Unanswered}
 use Rattle.trex_rpc.specs.declared.stop.Unanswered.TheVariants.{OutFault, NotesFault, Memory as NoMemory}
@@ -24,7 +22,7 @@ use Rattle.trex_rpc.specs.Heard.{Heard, cut, heard, heard_from, is_end, is_quit,
 use Rattle.trex_rpc.specs.Lines.{GivesLine}
 use Rattle.trex_rpc.specs.Table.{Table}
 use Rattle.trex_rpc.specs.Talk.{Runs, along, captured, captures, replies, reply, table_of, tables}
-use Rattle.trex_rpc.specs.Written.{Answered, Leaves, Spoken, Stopped, stop_of}
+use Rattle.trex_rpc.specs.Written.{Answered, Spoken, Stopped, stop_of}
 use Rattle.trex_rpc.proofs.AlongLemmas.{along-append, tables-append}
 use Rattle.trex_rpc.proofs.HeardLemmas.{heard_next, hears, hears_front}
 
@@ -100,20 +98,11 @@ BeginsWith-quit (Some text) kept (Some left) done line next =
 within : (m n : ℕ) → nat_lt m n ≡ false → n ≤ m
 within m n test = grind (arith, nat_tests)
 
-positive : (n : ℕ) → 0 < n → nat_eq n 0 ≡ false
-positive n more = grind (arith, nat_tests)
-
--- nothing was read
-end_is : (line : List ℕ) (ended : Bool) → is_end line ended ≡ true → (line ≡ []) × (ended ≡ false)
-end_is [] true end = absurd (let e : false ≡ true = end in cc)
-end_is [] false end = (refl, refl)
-end_is (b ∷ bs) ended end = absurd (let e : false ≡ true = rw (positive (length (b ∷ bs)) (omega arith)) at end in cc)
-
 -- a line that is answered adds a byte at least, and stays within the bound
-pub goes_on : (line : List ℕ) (ended : Bool) (before total : ℕ) → is_end line ended ≡ false → judged line ended before ≡ Goes total
+pub goes_on : (line : List ℕ) (ended : Bool) (before total : ℕ) → is_end line ended ≡ false → Goes total ≡ judged line ended before
     → (total ≤ MOST_BYTES) × (before < total)
 goes_on line ended before total more goes =
-    by_tests (is_quit line) (nat_lt MOST_BYTES (before + length (piece_of line ended))) refl goes
+    by_tests (is_quit line) (nat_lt MOST_BYTES (before + length (piece_of line ended))) refl (sym goes)
   where
     some_piece : (line : List ℕ) (ended : Bool) → is_end line ended ≡ false → 0 < length (piece_of line ended)
     some_piece line true more = omega (arith, length-append line (10 ∷ []))
@@ -161,7 +150,7 @@ module _ {K : Type 0} (held : K → Option (List ℕ)) (old mid new : K) (text :
   part_more lines done more line table lines_are is first next =
       let part = WrotePart-after held old mid new (along text [] done) (text (tables [] done) line) first (subst (λ t. WrotePart held mid new (text t line)) is next) in
       let longer = WrotePart-longer held old new (along text [] (done ++ line ∷ [])) (along text (tables [] (done ++ line ∷ [])) more)
-          (subst (WrotePart held old new) (sym (along-more done line)) part) in
+      (subst (WrotePart held old new) (sym (along-more done line)) part) in
       subst (WrotePart held old new) (sym (ap (along text []) lines_are ∙ along-append text [] (done ++ line ∷ []) more)) longer
 
 module _ {O N : Type 0} (runs : Runs) (held : O → Option (List ℕ)) (told : N → Option (List ℕ)) (out : O) (notes : N) where
@@ -182,37 +171,11 @@ module _ {O N : Type 0} (runs : Runs) (held : O → Option (List ℕ)) (told : N
   silent : (text : List ℕ) (bound : Option Bound) (done : List (List ℕ)) → heard text ≡ after done (silence bound) → (heard text).lines ≡ done
   silent text bound done is = ap (λ (h : Heard). h.lines) is ∙ append-nil done
 
-  -- the input is at its end
-  ended_there : (input old : Option (List ℕ)) (kept : List ℕ) (left : Option (List ℕ)) (before number : ℕ) (session : Table) (out' : O) (notes' : N)
-      → SoFar input old before number session out' notes' → GivesLine old (prepend_known kept left) [] (Ok false)
-      → IfSome input (λ text. Spoken runs held told out out' notes notes' (heard text) left)
-  ended_there None old kept left before number session out' notes' s gives = tt
-  ended_there (Some text) None kept left before number session out' notes' s gives = absurd s.goes_on
-  ended_there (Some text) (Some bytes) kept None before number session out' notes' s gives = absurd gives.0
-  ended_there (Some text) (Some bytes) kept (Some left) before number session out' notes' s gives =
-      let is = s.goes_on ∙ ap (λ b. after s.done (heard_from before (cut b))) (gives.0 ∙ gives.3) in
-      let lines = silent text None s.done is in
-      record {
-        unbroken = ap (λ (h : Heard). h.broken) is;
-        captured_all = subst (λ ls. Wrote held out out' (captures runs ls)) (sym lines) s.captured_all;
-        replied_all = subst (λ ls. Wrote told notes notes' (replies runs ls)) (sym lines) s.replied_all;
-        read = (kept, ap (λ (h : Heard). h.rest) is ∙ sym gives.3);
-      }
-
-  pub ends : (input old : Option (List ℕ)) (kept : List ℕ) (left : Option (List ℕ)) (before number : ℕ) (session : Table) (out' : O) (notes' : N) (line : List ℕ) (ended : Bool)
-      → SoFar input old before number session out' notes' → GivesLine old (prepend_known kept left) line (Ok ended) → is_end line ended ≡ true
-      → IfSome input (λ text. Spoken runs held told out out' notes notes' (heard text) left)
-  ends input old kept left before number session out' notes' line ended s gives end =
-      let (empty, unended) = end_is line ended end in
-      ended_there input old kept left before number session out' notes' s
-      (subst (λ l. GivesLine old (prepend_known kept left) l (Ok false)) empty (subst (λ e. GivesLine old (prepend_known kept left) line (Ok e)) unended gives))
-
   -- a bound is broken
   breaks : (text : List ℕ) (bound : Bound) (ahead : Option (List ℕ)) (before number : ℕ) (session : Table) (out' : O) (notes' : N) (s : SoFar (Some text) ahead before number session out' notes')
       → heard text ≡ after s.done (silence (Some bound)) → Stopped runs held told out out' notes notes' (heard text) (Bad bound (number + 1))
   breaks text bound ahead before number session out' notes' s is =
-      let lines = silent text (Some bound) s.done is in
-      (
+      let lines = silent text (Some bound) s.done is in (
         ap (λ (h : Heard). h.broken) is,
         ap (λ n. n + 1) (s.count ∙ ap length (sym lines)),
         subst (λ ls. Wrote held out out' (captures runs ls)) (sym lines) s.captured_all,
@@ -236,11 +199,10 @@ module _ {O N : Type 0} (runs : Runs) (held : O → Option (List ℕ)) (told : N
   stops_memory : (text : List ℕ) (done more : List (List ℕ)) (out' : O) (notes' : N) → (heard text).lines ≡ done ++ more
       → Wrote held out out' (captures runs done) → Wrote told notes notes' (replies runs done)
       → ((n : ℕ) × Wrote held out out' (captures runs (take n (heard text).lines))) × WrotePrefix told notes notes' (replies runs (heard text).lines)
-  stops_memory text done more out' notes' lines captured_all replied_all =
-      (
-        (length done, subst (λ ls. Wrote held out out' (captures runs ls)) (sym (ap (take (length done)) lines ∙ take-front done more)) captured_all),
-        wrote_front told notes notes notes' (reply runs) (heard text).lines done more lines replied_all,
-      )
+  stops_memory text done more out' notes' lines captured_all replied_all = (
+    (length done, subst (λ ls. Wrote held out out' (captures runs ls)) (sym (ap (take (length done)) lines ∙ take-front done more)) captured_all),
+    wrote_front told notes notes notes' (reply runs) (heard text).lines done more lines replied_all,
+  )
 
   -- no line was read
   pub stops_unheard : (input old new : Option (List ℕ)) (before number : ℕ) (session : Table) (out' : O) (notes' : N) (line : List ℕ) (fault : LineFault)
@@ -304,17 +266,15 @@ module _ {O N : Type 0} (runs : Runs) (held : O → Option (List ℕ)) (told : N
       → Answered held faults told count out' out'' notes' notes'' (captured runs session line) (reply runs session line) (Err fault)
       → IfSome input (λ text. Stopped runs held told out out'' notes notes'' (heard text) (stop_of fault))
   stops_answering faults count None old before number session out' out'' notes' notes'' line fault s begins answered = tt
-  stops_answering faults count (Some text) old before number session out' out'' notes' notes'' line OutFault s (more, lines) (part, rises, same) =
-      (
-        part_more held out out' out'' (captured runs) (heard text).lines s.done more line session lines s.table s.captured_all part,
-        subst (λ k. WrotePrefix told notes k (replies runs (heard text).lines)) (sym same)
+  stops_answering faults count (Some text) old before number session out' out'' notes' notes'' line OutFault s (more, lines) (part, rises, same) = (
+    part_more held out out' out'' (captured runs) (heard text).lines s.done more line session lines s.table s.captured_all part,
+    subst (λ k. WrotePrefix told notes k (replies runs (heard text).lines)) (sym same)
         (wrote_front told notes notes notes' (reply runs) (heard text).lines s.done (line ∷ more) (lines ∙ append_assoc s.done (line ∷ []) more) s.replied_all),
-      )
-  stops_answering faults count (Some text) old before number session out' out'' notes' notes'' line NotesFault s (more, lines) (whole, part, rises) =
-      (
-        wrote_front held out out out'' (captured runs) (heard text).lines (s.done ++ line ∷ []) more lines (wrote_more held out out' out'' (captured runs) s.done line session s.table s.captured_all whole),
-        part_more told notes notes' notes'' (reply runs) (heard text).lines s.done more line session lines s.table s.replied_all part,
-      )
+  )
+  stops_answering faults count (Some text) old before number session out' out'' notes' notes'' line NotesFault s (more, lines) (whole, part, rises) = (
+    wrote_front held out out out'' (captured runs) (heard text).lines (s.done ++ line ∷ []) more lines (wrote_more held out out' out'' (captured runs) s.done line session s.table s.captured_all whole),
+    part_more told notes notes' notes'' (reply runs) (heard text).lines s.done more line session lines s.table s.replied_all part,
+  )
   stops_answering faults count (Some text) old before number session out' out'' notes' notes'' line NoMemory s (more, lines) (same_out, same_notes) =
       subst (λ k. ((n : ℕ) × Wrote held out k (captures runs (take n (heard text).lines))) × WrotePrefix told notes notes'' (replies runs (heard text).lines)) (sym same_out)
       (subst (λ k. ((n : ℕ) × Wrote held out out' (captures runs (take n (heard text).lines))) × WrotePrefix told notes k (replies runs (heard text).lines)) (sym same_notes)

@@ -1,5 +1,5 @@
 -- What a line of a session does to the table, and what it is answered with. Own.
-use Rattle.std.specs.Prelude.{◌≡◌, ℕ, ◌==◌, ◌+◌, Bool, true, false, List, [], ◌∷◌, ◌++◌, length, remove, codes, Option, None, Some, option_and_then, Result, Ok, Err, IfOk, OnErr, if◌then◌else◌, nat_lt, nat_le}
+use Rattle.std.specs.Prelude.{◌≡◌, ℕ, ◌==◌, Bool, true, false, List, [], ◌∷◌, ◌++◌, length, remove, codes, Option, None, Some, option_and_then, Result, Ok, Err, IfOk, OnErr, if◌then◌else◌, nat_lt, nat_le}
 use Rattle.std.specs.List.{before_first, after_first, position_or_len, slice_split}
 use Rattle.std.specs.Str.{bytes_eq, is_utf8}
 use Rattle.trex_decimal.specs.Decimal.{whole_of}
@@ -13,7 +13,6 @@ use Rattle.trex_profile.specs.Stream.{Stream}
 use Rattle.trex_report.specs.Texts.{refusal_line, usage_line}
 use Rattle.trex_words.specs.declared.asked.Asked.{Asked}
 use Rattle.trex_words.specs.declared.asked.Asked.TheVariants.{Run}
-use Rattle.trex_words.specs.declared.asked.RunAsk.{RunAsk}
 use Rattle.trex_words.specs.declared.asked.Usage.{Usage}
 use Rattle.trex_words.specs.Asked.{asked, IsRunAsk}
 use Rattle.trex_rpc.specs.declared.reply.Reply.{Reply}

@@ -116,11 +116,7 @@ impl LineReader {
 
     /// Reads the next line into `line`, and answers whether a line feed ended it. A line that none ended is the rest of the input; it
     /// may be empty. The source isn't read while the end of the line is kept.
-    pub fn next<S: Source>(
-        &mut self,
-        source: &mut S,
-        line: &mut Vec<u8>,
-    ) -> Result<bool, LineFault>
+    pub fn next<S: Source>(&mut self, source: &mut S, line: &mut Vec<u8>) -> Result<bool, LineFault>
         ensures line { GivesLine (ahead S.left self.old source.old) (ahead S.left self.new source.new) line.new.items result }
         ensures later { S.faults source.old ≤ S.faults source.new }
         ensures fault { IsErrOf result LineFault.Fault → Rises S.faults source.old source.new }

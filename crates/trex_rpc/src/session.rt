@@ -44,7 +44,11 @@ fn id_of(text: &str) -> Option<u32>
     ensures { result ≡ id_of text.now }
 {
     let id = whole(text)?;
-    if id <= GREATEST_ID { Some(id as u32) } else { None }
+    if id <= GREATEST_ID {
+        Some(id as u32)
+    } else {
+        None
+    }
 }
 
 /// The line of all ids.

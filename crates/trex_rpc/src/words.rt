@@ -11,7 +11,7 @@ use trex_io::Memory;
 pub(crate) fn cut_at_space(text: &str) -> Option<(&str, &str)>
     ensures { MatchOption result (position_or_len is_space text.now ≡ length text.now)
         (λ halves. (position_or_len is_space text.now < length text.now)
-            × (halves.0.now ≡ before_first is_space text.now) × (halves.1.now ≡ after_first is_space text.now)) }
+        × (halves.0.now ≡ before_first is_space text.now) × (halves.1.now ≡ after_first is_space text.now)) }
 {
     match text.split_once(' ') {
         None => None,

@@ -1,10 +1,10 @@
 -- How the session stands after each line, ends and stops.
-use Rattle.std.proofs.Common.{◌≡◌, ◌+◌, ◌≤◌, ◌<◌, ◌∷◌, ◌++◌, [], false, arith, rules, sym, ◌∙◌}
+use Rattle.std.proofs.Common.{◌≡◌, false, arith}
 use Rattle.trex_rpc.specs.declared.talking.Judged.TheVariants.{Quits, Breaks, Goes}
 use Rattle.trex_rpc.specs.Heard.{is_end}
 use Rattle.trex_rpc.specs.Lines.{ahead}
 use Rattle.trex_rpc.specs.Talk.{Runs}
-use Rattle.trex_rpc.proofs.TalkLemmas.{Next, Next-read, BeginsWith-line, BeginsWith-quit, SoFar-first, SoFar-more, goes_on, quits, stops_answering, stops_much, stops_unheard}
+use Rattle.trex_rpc.proofs.TalkLemmas.{Next-read, BeginsWith-line, BeginsWith-quit, SoFar-first, SoFar-more, goes_on, quits, stops_answering, stops_much, stops_unheard}
 use Rattle.trex_rpc.proofs.talking.talk.Goals as goal
 
 pub lines-init : goal.lines-init
@@ -35,7 +35,7 @@ returns-in-Err-respond-clause-stops g c =
     let line = c.as_slice-text.result.now in
     let unended : is_end line c.in-Ok.ended ≡ false = cc in
     let next = Next-read (left c.args.input.now) (ahead left c.lines.reader c.lines.input) c.next.new.self (left c.next.new.source) c.lines.before s.done c.next.new.line.items line c.in-Ok.ended
-        Quits s.goes_on c.in-Ok.ensures.line c.as_slice-text.ensures.value unended c.in-Quits.ensures in
+    Quits s.goes_on c.in-Ok.ensures.line c.as_slice-text.ensures.value unended c.in-Quits.ensures in
     let begins = BeginsWith-quit (left c.args.input.now) c.next.new.self (left c.next.new.source) s.done line next in
     rw c.stop_of.ensures
     (stops_answering runs g.O.Sink.held g.N.Sink.held c.args.out.now c.args.notes.now g.O.Sink.faults g.N.Sink.faults (left c.args.input.now) (ahead left c.lines.reader c.lines.input)
@@ -49,7 +49,7 @@ returns-in-Quits-clause-done g c =
     let line = c.as_slice-text.result.now in
     let unended : is_end line c.in-Ok.ended ≡ false = cc in
     let next = Next-read (left c.args.input.now) (ahead left c.lines.reader c.lines.input) c.next.new.self (left c.next.new.source) c.lines.before s.done c.next.new.line.items line c.in-Ok.ended
-        Quits s.goes_on c.in-Ok.ensures.line c.as_slice-text.ensures.value unended c.in-Quits.ensures in
+    Quits s.goes_on c.in-Ok.ensures.line c.as_slice-text.ensures.value unended c.in-Quits.ensures in
     let answered = c.in_default.ensures.answered in
     quits runs g.O.Sink.held g.N.Sink.held c.args.out.now c.args.notes.now (left c.args.input.now) (ahead left c.lines.reader c.lines.input) c.next.new.self (left c.next.new.source)
     c.lines.before c.lines.number c.lines.session c.lines.out c.respond.new.out c.lines.notes c.respond.new.notes line s next answered.0 answered.1
@@ -62,7 +62,7 @@ returns-in-Breaks-clause-stops g c =
     let line = c.as_slice-text.result.now in
     let unended : is_end line c.in-Ok.ended ≡ false = cc in
     let next = Next-read (left c.args.input.now) (ahead left c.lines.reader c.lines.input) c.next.new.self (left c.next.new.source) c.lines.before s.done c.next.new.line.items line c.in-Ok.ended
-        Breaks s.goes_on c.in-Ok.ensures.line c.as_slice-text.ensures.value unended c.in-Breaks.ensures in
+    Breaks s.goes_on c.in-Ok.ensures.line c.as_slice-text.ensures.value unended c.in-Breaks.ensures in
     stops_much runs g.O.Sink.held g.N.Sink.held c.args.out.now c.args.notes.now (left c.args.input.now) (ahead left c.lines.reader c.lines.input) c.next.new.self (left c.next.new.source)
     c.lines.before c.lines.number c.lines.session c.lines.out c.lines.notes line s next
 
@@ -74,7 +74,7 @@ returns-in-Err-respond-2-clause-stops g c =
     let line = c.as_slice-text.result.now in
     let unended : is_end line c.in-Ok.ended ≡ false = cc in
     let next = Next-read (left c.args.input.now) (ahead left c.lines.reader c.lines.input) c.next.new.self (left c.next.new.source) c.lines.before s.done c.next.new.line.items line c.in-Ok.ended
-        (Goes c.in-Goes.total) s.goes_on c.in-Ok.ensures.line c.as_slice-text.ensures.value unended c.in-Goes.ensures in
+    (Goes c.in-Goes.total) s.goes_on c.in-Ok.ensures.line c.as_slice-text.ensures.value unended c.in-Goes.ensures in
     let begins = BeginsWith-line (left c.args.input.now) c.next.new.self (left c.next.new.source) s.done c.in-Goes.total line next in
     rw c.stop_of-in-Err-respond-2.ensures
     (stops_answering runs g.O.Sink.held g.N.Sink.held c.args.out.now c.args.notes.now g.O.Sink.faults g.N.Sink.faults (left c.args.input.now) (ahead left c.lines.reader c.lines.input)
@@ -88,8 +88,8 @@ lines-preserved g c =
     let line = c.as_slice-text.result.now in
     let unended : is_end line c.in-Ok.ended ≡ false = cc in
     let next = Next-read (left c.args.input.now) (ahead left c.lines.reader c.lines.input) c.next.new.self (left c.next.new.source) c.lines.before s.done c.next.new.line.items line c.in-Ok.ended
-        (Goes c.in-Goes.total) s.goes_on c.in-Ok.ensures.line c.as_slice-text.ensures.value unended c.in-Goes.ensures in
-    let many = goes_on line c.in-Ok.ended c.lines.before c.in-Goes.total unended (sym c.in-Goes.ensures) in
+    (Goes c.in-Goes.total) s.goes_on c.in-Ok.ensures.line c.as_slice-text.ensures.value unended c.in-Goes.ensures in
+    let many = goes_on line c.in-Ok.ended c.lines.before c.in-Goes.total unended c.in-Goes.ensures in
     let answered = c.in_default-respond.ensures.answered in
     record {
       spoken = SoFar-more runs g.O.Sink.held g.N.Sink.held c.args.out.now c.args.notes.now (left c.args.input.now) (ahead left c.lines.reader c.lines.input) c.next.new.self (left c.next.new.source)

@@ -7,6 +7,6 @@ use Rattle.trex_rpc.proofs.words.run_words.Goals as goal
 pub returns : goal.returns
 returns c =
     let all =
-        YieldsList-end (YieldsList-from_str_split 32 c.args.text.now (lit< tt) (cc) (cc) (cc))
-        c.loop-word.yielded _ c.loop-word.yielded_by _ _ c.in-None.is c.next.ensures.steps in
+    YieldsList-end (YieldsList-from_str_split 32 c.args.text.now (lit< tt) (cc) (cc) (cc))
+    c.loop-word.yielded _ c.loop-word.yielded_by _ _ c.in-None.is c.next.ensures.steps in
     c.loop-word.invariant ∙ ap (λ words. codes "run" ∷ words) all.0

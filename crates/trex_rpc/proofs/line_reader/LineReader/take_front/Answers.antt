@@ -1,5 +1,5 @@
 -- What is moved is what stands before the first line feed.
-use Rattle.std.proofs.Common.{◌≡◌, ℕ, ◌+◌, ◌-◌, ◌≤◌, ◌∷◌, ◌++◌, take, drop, length-take, sym, ◌∙◌, arith, rules}
+use Rattle.std.proofs.Common.{◌≡◌, ◌+◌, ◌-◌, ◌≤◌, ◌∷◌, ◌++◌, take, drop, length-take, sym, ◌∙◌, arith, rules}
 use Rattle.trex_rpc.proofs.FeedLemmas.{feed_at, feed_nowhere, after_front}
 use Rattle.trex_rpc.proofs.line_reader.LineReader.take_front.Goals as goal
 

@@ -2,7 +2,7 @@
 use Rattle.std.proofs.Common.{◌≡◌, ℕ, Bool, true, false, List, codes, refl, if◌then◌else◌, rules}
 use Rattle.std.specs.Str.{IsUtf8, is_utf8}
 use Rattle.std.proofs.lemmas.Str.{IsUtf8-from_is_utf8, is_utf8-from_IsUtf8}
-use Rattle.trex_rpc.specs.Answer.{Answer, answer, answer_text, says}
+use Rattle.trex_rpc.specs.Answer.{answer, answer_text, says}
 use Rattle.trex_rpc.specs.Table.{Table}
 use Rattle.trex_rpc.proofs.session.Session.line.Goals as goal
 
