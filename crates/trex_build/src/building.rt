@@ -4,9 +4,9 @@ ghost use Rattle.std.specs.Prelude.{map};
 ghost use Rattle.trex_build.specs.Built.{Builds};
 ghost use Rattle.trex_build.specs.Layer.{layer};
 
-use crate::layer::{LayerSpec, views};
+use crate::layer::LayerSpec;
 use std::alloc::Global;
-use trex_headers::{BuildFault, Version};
+use trex_headers::{BuildFault, Version, build_owned};
 
 /// Builds the packet of some layers. The first layer is Ethernet; behind it come at most two tags, then at most one IPv4 header, then
 /// at most one TCP or UDP header, which stands only behind IPv4, and then at most one payload. `Order` comes exactly where a layer can't
@@ -17,6 +17,5 @@ use trex_headers::{BuildFault, Version};
 pub fn build(alloc: Global, layers: &[LayerSpec]) -> Result<Vec<u8>, BuildFault>
     ensures { Builds (λ packet. packet.items) result (map layer layers.now) }
 {
-    let views = views(alloc, layers)?;
-    trex_headers::build(alloc, Version::V4, &views)
+    build_owned(alloc, Version::V4, layers)
 }

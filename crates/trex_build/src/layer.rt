@@ -1,10 +1,8 @@
 // A layer of a packet over IPv4, and how it is lent to the writer of headers.
 
-ghost use Rattle.std.specs.Prelude.{◌≡◌, IfOk, map};
-ghost use Rattle.trex_build.specs.Layer.{layer, layer_of};
+ghost use Rattle.trex_build.specs.Layer.{layer};
 
-use std::alloc::{AllocError, Global};
-use trex_headers::{LayerView, lend};
+use trex_headers::{AsLayer, LayerView, lend};
 
 /// A layer of a packet. Lengths, checksums and the numbers that name the layer behind are filled in where the packet is built.
 #[derive(Debug, Drop)]
@@ -51,38 +49,28 @@ pub enum LayerSpec {
     },
 }
 
-/// A layer, lent.
-fn view(one: &LayerSpec) -> LayerView<'_>
-    ensures { layer_of result ≡ layer one.now }
-{
-    lend!(one, LayerSpec,
-        LayerSpec::Ipv4 {
-            tos,
-            id,
-            frag,
-            ttl,
-            proto,
-            src,
-            dst,
-        } => LayerView::Ipv4 {
-            tos: *tos,
-            id: *id,
-            frag: *frag,
-            ttl: *ttl,
-            proto: *proto,
-            src: *src,
-            dst: *dst,
-        },
-    )
-}
+impl AsLayer for LayerSpec {
+    ghost plain = { layer };
 
-/// Layers, lent.
-pub(crate) fn views(alloc: Global, layers: &[LayerSpec]) -> Result<Vec<LayerView<'_>>, AllocError>
-    ensures { IfOk result (λ views. map layer_of views.items ≡ map layer layers.now) }
-{
-    let mut views = Vec::with_capacity(alloc, layers.len())?;
-    for one in layers {
-        views.push(view(one))?;
+    fn as_layer(&self) -> LayerView<'_> {
+        lend!(self, LayerSpec,
+            LayerSpec::Ipv4 {
+                tos,
+                id,
+                frag,
+                ttl,
+                proto,
+                src,
+                dst,
+            } => LayerView::Ipv4 {
+                tos: *tos,
+                id: *id,
+                frag: *frag,
+                ttl: *ttl,
+                proto: *proto,
+                src: *src,
+                dst: *dst,
+            },
+        )
     }
-    Ok(views)
 }

@@ -1,4 +1,4 @@
-// Packets from layers over IPv4: the layers as they are given, and the bytes that they give.
+//! Packets from layers over IPv4: the layers as they are given, and the bytes that they give.
 #![tactic(auto)]
 
 mod building;

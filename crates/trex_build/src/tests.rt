@@ -1,78 +1,33 @@
-// Expected bytes come from a second program, which adds by end-around carry.
+// Packets over IPv4, byte by byte. Expected bytes come from a second program, which adds by end-around carry.
 
 use crate::{BuildFault, LayerSpec, build, built_headers_verify};
-use std::alloc::{AllocError, Global};
+use std::alloc::Global;
 use std::test::Fail;
 
-/// A layer of each kind by its letter: E, V, I, T, U, and R for a payload of so many zeros.
-fn layer_of(alloc: Global, letter: u8, payload: usize) -> Result<LayerSpec, AllocError> {
-    Ok(match letter {
-        b'E' => LayerSpec::Ethernet {
-            dst: [2, 0, 0, 0, 0, 2],
-            src: [2, 0, 0, 0, 0, 1],
-            etype: 0x88b5,
-        },
-        b'V' => LayerSpec::Vlan {
-            tci: 7,
-            etype: 0x88b5,
-        },
-        b'I' => LayerSpec::Ipv4 {
-            tos: 0,
-            id: 0,
-            frag: 0,
-            ttl: 64,
-            proto: 253,
-            src: 0x1000_0001,
-            dst: 0x3000_0001,
-        },
-        b'T' => LayerSpec::Tcp {
-            sport: 1025,
-            dport: 12,
-            seq: 0,
-            ack: 0,
-            flags: 2,
-            window: 8192,
-        },
-        b'U' => LayerSpec::Udp {
-            sport: 1025,
-            dport: 12,
-        },
-        _ => LayerSpec::Raw {
-            bytes: vec![in alloc; 0; payload]?,
-        },
-    })
-}
-
-/// What the layers of these letters give: the packet's length, or the fault.
-fn answer_of(
-    alloc: Global,
-    letters: &str,
-    payload: usize,
-) -> Result<Result<usize, BuildFault>, Fail> {
-    let mut layers = Vec::new(alloc);
-    for letter in letters.as_bytes() {
-        layers.push(layer_of(alloc, *letter, payload)?)?;
+/// An Ethernet header.
+fn ethernet() -> LayerSpec {
+    LayerSpec::Ethernet {
+        dst: [2, 0, 0, 0, 0, 2],
+        src: [2, 0, 0, 0, 0, 1],
+        etype: 0,
     }
-    Ok(match build(alloc, &layers) {
-        Ok(packet) => Ok(packet.len()),
-        Err(fault) => Err(fault),
-    })
 }
-
-const ROWS: [(&str, usize, Result<usize, BuildFault>); 5] = [
-    ("", 0, Err(BuildFault::Order { at: 0 })),
-    ("EVT", 0, Err(BuildFault::Order { at: 2 })),
-    ("RE", 9300, Err(BuildFault::Order { at: 0 })),
-    ("EIUR", 18, Ok(60)),
-    ("EVVITR", 9155, Err(BuildFault::TooLong)),
-];
 
 #[test]
-fn layers_stand_in_order_and_within_the_greatest_length(rt: HostRuntime) -> Result<(), Fail> {
-    for &(letters, payload, wanted) in &ROWS {
-        let found = answer_of(rt.alloc(), letters, payload)?;
-        assert_eq!(rt; found, wanted, "{letters} with {payload} bytes");
-    }
+fn layers_without_ethernet_and_packets_that_are_too_long_are_refused(
+    rt: HostRuntime,
+) -> Result<(), Fail> {
+    assert_eq!(rt;
+        build(rt.alloc(), &[]).err(),
+        Some(BuildFault::Order { at: 0 })
+    );
+    let long = [
+        ethernet(),
+        LayerSpec::Raw {
+            bytes: vec![in rt.alloc(); 0; 9203]?,
+        },
+    ];
+    assert_eq!(rt; build(rt.alloc(), &long).err(), Some(BuildFault::TooLong));
     built_headers_verify();
     Ok(())
 }
@@ -83,11 +38,7 @@ fn headers_name_what_follows_and_verify(rt: HostRuntime) -> Result<(), Fail> {
     let mut payload = Vec::new(alloc);
     payload.extend_from_slice(b"odd")?;
     let layers = vec![in alloc;
-        LayerSpec::Ethernet {
-            dst: [2, 0, 0, 0, 0, 2],
-            src: [2, 0, 0, 0, 0, 1],
-            etype: 0
-        },
+        ethernet(),
         LayerSpec::Vlan {
             tci: 0x2005,
             etype: 0
@@ -131,7 +82,7 @@ fn datagram(alloc: Global, id: u16, payload: &[u8]) -> Result<Vec<u8>, Fail> {
     let mut bytes = Vec::new(alloc);
     bytes.extend_from_slice(payload)?;
     let layers = vec![in alloc;
-        layer_of(alloc, b'E', 0)?,
+        ethernet(),
         LayerSpec::Ipv4 {
             tos: 0,
             id,
@@ -141,7 +92,10 @@ fn datagram(alloc: Global, id: u16, payload: &[u8]) -> Result<Vec<u8>, Fail> {
             src: 0x1000_0001,
             dst: 0x3000_0001
         },
-        layer_of(alloc, b'U', 0)?,
+        LayerSpec::Udp {
+            sport: 1025,
+            dport: 12
+        },
         LayerSpec::Raw { bytes },
     ]?;
     match build(alloc, &layers) {

@@ -1,10 +1,10 @@
 pub mod TotalLemmas
 mod Seats
-mod Shelves
+mod Unchanged
 mod Draws
 mod Rounds
 mod Puts
-mod Rests
+mod RoundEnds
 pub mod SlotLemmas
 pub mod CallLemmas
 mod Apart

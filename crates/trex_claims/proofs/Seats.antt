@@ -10,7 +10,7 @@ use Rattle.trex_claims.specs.declared.view.Role.TheVariants.{First, Other, Spent
 use Rattle.trex_claims.specs.declared.view.View.{View}
 use Rattle.trex_claims.specs.Views.{total, IsFirst, IsOther, other, other_by, spent}
 use Rattle.trex_claims.specs.Board.{FollowsAs, Led}
-use Rattle.trex_claims.specs.Moves.{gave, worker, both}
+use Rattle.trex_claims.specs.Moves.{after_split, split_seat, after_join}
 use Rattle.trex_claims.proofs.TotalLemmas.{total_set, total_snoc, total_first, part, within}
 
 first_alone : (r : Role) (a v : View) → IsFirst r → FollowsAs r a v → ⊥
@@ -58,7 +58,7 @@ one_of Spent h = absurd h
 
 module _ (a : View) (l : List View) (led : Led a l) where
   -- where no seat is out, a sum is the first view's part
-  pub sole : (f : View → ℕ) → f spent ≡ 0 → a.outs ≡ 0 → total f l ≡ f a
+  pub sole : (f : View → ℕ) → f spent ≡ 0 → a.seats_out ≡ 0 → total f l ≡ f a
   sole f z alone =
       total_first f l a led.leads
       (λ i v n e.
@@ -82,9 +82,9 @@ module _ (a : View) (l : List View) (led : Led a l) where
         (λ n. unspent_follows v.role a v unspent (led.follow id v n at))
 
     -- a step of any seat that keeps role, round and the count of seats
-    pub leads_on : (w : View) → (v ≡ spent → ⊥) → w.role ≡ v.role → w.round ≡ v.round → w.outs ≡ v.outs
-        → (b : View) × Led b (set l id w) × (b.round ≡ a.round) × (b.outs ≡ a.outs) × (w.told ≡ v.told → b.told ≡ a.told)
-    leads_on w unspent role round outs =
+    pub leads_on : (w : View) → (v ≡ spent → ⊥) → w.role ≡ v.role → w.round ≡ v.round → w.seats_out ≡ v.seats_out
+        → (b : View) × Led b (set l id w) × (b.round ≡ a.round) × (b.seats_out ≡ a.seats_out) × (w.saw_none ≡ v.saw_none → b.saw_none ≡ a.saw_none)
+    leads_on w unspent role round seats_out =
         let s = total_set other l id v w at in
         let o : other w ≡ other v = ap other_by role in
         let all = led.others in
@@ -92,7 +92,7 @@ module _ (a : View) (l : List View) (led : Led a l) where
         (λ z.
         let is = lead_here z in
         let same : w.round ≡ a.round = round ∙ ap (λ (u : View). u.round) (sym is) in
-        let outs_are : w.outs ≡ a.outs = outs ∙ ap (λ (u : View). u.outs) (sym is) in (
+        let seats_out_are : w.seats_out ≡ a.seats_out = seats_out ∙ ap (λ (u : View). u.seats_out) (sym is) in (
           w,
           record {
             leads = ap (get_elem? (set l id w)) (sym z) ∙ set_here l id w (within l id v at);
@@ -100,11 +100,11 @@ module _ (a : View) (l : List View) (led : Led a l) where
             follow = λ i u n e.
                 let here : i ≢ id = λ q. n (q ∙ z) in
                 follows_along u.role a w u same (led.follow i u n (sym (set_else l id i w here) ∙ e));
-            others = let t : total other (set l id w) ≡ total other l = omega arith in t ∙ all ∙ sym outs_are;
+            others = let t : total other (set l id w) ≡ total other l = omega arith in t ∙ all ∙ sym seats_out_are;
           },
           same,
-          outs_are,
-          λ told. told ∙ ap (λ (u : View). u.told) (sym is),
+          seats_out_are,
+          λ saw_none. saw_none ∙ ap (λ (u : View). u.saw_none) (sym is),
         ))
         (λ z.
         let mine = led.follow id v z at in (
@@ -127,8 +127,8 @@ module _ (a : View) (l : List View) (led : Led a l) where
         ))
 
 -- a step of the first seat while no other is out
-pub leads_alone : (v w : View) (l : List View) → Led v l → v.outs ≡ 0 → IsFirst w.role → w.outs ≡ 0 → Led w (set l 0 w)
-leads_alone v w l led alone is_first outs =
+pub leads_alone : (v w : View) (l : List View) → Led v l → v.seats_out ≡ 0 → IsFirst w.role → w.seats_out ≡ 0 → Led w (set l 0 w)
+leads_alone v w l led alone is_first seats_out =
     let s = total_set other l 0 v w led.leads in
     let o : other v ≡ 0 = other_of v.role led.is_first in
     let p : other w ≡ 0 = other_of w.role is_first in
@@ -144,28 +144,28 @@ leads_alone v w l led alone is_first outs =
     }
 
 -- a seat is split off the first one
-pub leads_split : (v : View) (l : List View) → Led v l → Led (gave v) (set l 0 (gave v) ++ worker v ∷ [])
+pub leads_split : (v : View) (l : List View) → Led v l → Led (after_split v) (set l 0 (after_split v) ++ split_seat v ∷ [])
 leads_split v l led =
-    let w = gave v in
+    let w = after_split v in
     let s = total_set other l 0 v w led.leads in
-    let t = total_snoc other (set l 0 w) (worker v) in
+    let t = total_snoc other (set l 0 w) (split_seat v) in
     let all = led.others in
     record {
-      leads = at_longer (set l 0 w) (worker v ∷ []) 0 w (set_here l 0 w (within l 0 v led.leads));
+      leads = at_longer (set l 0 w) (split_seat v ∷ []) 0 w (set_here l 0 w (within l 0 v led.leads));
       is_first = led.is_first;
       follow = λ i u n e.
           ⊎_elim
           (λ q. follows_along u.role v w u refl (led.follow i u n (sym (set_else l 0 i w n) ∙ q)))
           (λ q. subst (λ (x : View). FollowsAs x.role w x) q refl)
-          (at_snoc (set l 0 w) (worker v) u i e);
+          (at_snoc (set l 0 w) (split_seat v) u i e);
       others = omega arith;
     }
 
 -- another seat is joined to the first one
-pub leads_join : (v u : View) (l : List View) (j : ℕ) → Led v l → j ≢ 0 → get_elem? (set l 0 (both v u)) j ≡ some u → IsOther u.role
-    → Led (both v u) (set (set l 0 (both v u)) j spent)
+pub leads_join : (v u : View) (l : List View) (j : ℕ) → Led v l → j ≢ 0 → get_elem? (set l 0 (after_join v u)) j ≡ some u → IsOther u.role
+    → Led (after_join v u) (set (set l 0 (after_join v u)) j spent)
 leads_join v u l j led n at is_other =
-    let w = both v u in
+    let w = after_join v u in
     let m = set l 0 w in
     let s = total_set other l 0 v w led.leads in
     let t = total_set other m j u spent at in

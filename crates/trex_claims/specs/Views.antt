@@ -2,9 +2,9 @@
 use Rattle.std.specs.Prelude.{ℕ, ◌+◌, ◌==◌, List, [], ◌∷◌, length, Bool, true, false, not, if◌then◌else◌}
 use Rattle.trex_claims.specs.declared.view.Role.{Role}
 use Rattle.trex_claims.specs.declared.view.Role.TheVariants.{First, Other, Spent}
-use Rattle.trex_claims.specs.declared.view.What.{What}
-use Rattle.trex_claims.specs.declared.view.What.TheVariants.{Empty, Out, Full}
-use Rattle.trex_claims.specs.declared.view.Stand.{Stand}
+use Rattle.trex_claims.specs.declared.view.SlotState.{SlotState}
+use Rattle.trex_claims.specs.declared.view.SlotState.TheVariants.{Empty, Out, Full}
+use Rattle.trex_claims.specs.declared.view.CoreState.{CoreState}
 use Rattle.trex_claims.specs.declared.view.Round.{Round}
 use Rattle.trex_claims.specs.declared.view.View.{View}
 
@@ -18,30 +18,36 @@ abbrev pub times : ℕ → List ℕ → ℕ
 times core [] = 0
 times core (x ∷ xs) = (if x == core then 1 else 0) + times core xs
 
+-- 1 where it holds, else 0
 abbrev pub one_if : Bool → ℕ
 one_if true = 1
 one_if false = 0
 
+-- the first seat
 abbrev pub IsFirst : Role → Type 0
 IsFirst First = Unit {0}
 IsFirst Other = ⊥
 IsFirst Spent = ⊥
 
+-- a seat that was split off and not joined
 abbrev pub IsOther : Role → Type 0
 IsOther First = ⊥
 IsOther Other = Unit {0}
 IsOther Spent = ⊥
 
-abbrev pub IsEmpty : What → Type 0
+-- a slot without a piece
+abbrev pub IsEmpty : SlotState → Type 0
 IsEmpty Empty = Unit {0}
 IsEmpty Out = ⊥
 IsEmpty Full = ⊥
 
-abbrev pub IsFull : What → Type 0
+-- a slot with a piece
+abbrev pub IsFull : SlotState → Type 0
 IsFull Empty = ⊥
 IsFull Out = ⊥
 IsFull Full = Unit {0}
 
+-- 1 for that role, else 0
 abbrev pub other_by : Role → ℕ
 other_by First = 0
 other_by Other = 1
@@ -63,18 +69,18 @@ done core v = times core v.done
 abbrev pub drawn : View → ℕ
 drawn v = length v.claim + length v.done
 
--- how often it was told None
-abbrev pub nones : View → ℕ
-nones v = v.nones
+-- how often it drew a number past the last core
+abbrev pub empty_draws : View → ℕ
+empty_draws v = v.empty_draws
 
--- how often it may still be told None, with the seats that may still be split off it
-abbrev pub left : View → ℕ
-left v = v.spare + one_if (not v.told)
+-- how often it may still do so, and the seats that may still be split off it: each seat does so once at most
+abbrev pub empty_draws_left : View → ℕ
+empty_draws_left v = v.seats_left + one_if (not v.saw_none)
 
 -- no round was ever open
-abbrev pub no_round : List Stand → Round
-no_round stands = record { running = false; base = 0; rounds = 0; stands = stands }
+abbrev pub no_round : List CoreState → Round
+no_round cores = record { running = false; base = 0; rounds = 0; cores = cores }
 
 -- the view of a seat that was joined
 abbrev pub spent : View
-spent = record { role = Spent; round = no_round []; claim = []; done = []; told = true; nones = 0; spare = 0; outs = 0 }
+spent = record { role = Spent; round = no_round []; claim = []; done = []; saw_none = true; empty_draws = 0; seats_left = 0; seats_out = 0 }

@@ -1,13 +1,15 @@
-// The board: pieces wait in slots, and seats claim them by draws.
+// The board. The first seat lends it the pieces and begins a round, and splits off a seat for each further thread. Each seat draws until it
+// sees None: a draw claims a core, whose piece the seat takes, turns, and puts back. Then the other seats are joined to the first, which
+// fetches the pieces; the first fetch ends the round.
 
-ghost use Rattle.std.specs.Prelude.{◌≡◌, ℕ, ◌+◌, ◌<◌, ◌≤◌, ◌^◌, [], ◌∷◌, true, false, Some, None, IsOk, IfOk, IfSome, IfNone, MatchOption, length};
+ghost use Rattle.std.specs.Prelude.{◌≡◌, ◌⊎◌, ℕ, ◌+◌, ◌<◌, ◌≤◌, ◌^◌, [], ◌∷◌, true, false, Some, None, IsOk, IfOk, IfSome, IfNone, MatchOption, length};
 ghost use Rattle.trex_claims.specs.Views.{IsFirst, IsOther, IsFull, IsEmpty, times};
 ghost use Rattle.trex_claims.specs.Board.{IsPiece, below};
-ghost use Rattle.trex_claims.specs.Moves.{opening_view, begun, gave, worker, both, ends, puts, rested, restood, filled, emptied, stand_at, HoldsNone, DrewCore};
+ghost use Rattle.trex_claims.specs.Moves.{opening_view, round_opened, after_split, split_seat, after_join, after_empty_draw, after_put, round_closed, with_core, filled, emptied, state_at, with_slot, FitsAs, HoldsNone, DrewCore};
 
 use crate::claim::Claim;
 use crate::piece::Piece;
-use crate::rule::{Begin, Cut, Draw, Order, PutBackCore, Reach, Shelve};
+use crate::rule::{Begin, BoardRule, Draw, PutBackCore, ReturnSlot, SplitAndJoin, TakeSlot};
 use crate::view::View;
 use atomic_table::Table;
 use std::alloc::Global;
@@ -19,7 +21,7 @@ pub type Seat<T> = atomic_table::Seat<Option<T>, View>;
 /// A board with a slot for the piece of each core. Threads share it by reference, each with a seat of its own.
 #[derive(Drop)]
 pub struct Board<T: Piece> {
-    table: Table<Option<T>, View, u32, Order<T>, Global>,
+    table: Table<Option<T>, View, u32, BoardRule<T>, Global>,
     ghost sized: { (table.shared.table_id.words ≡ table.shared.table_id.slots + 1) × (table.shared.table_id.slots ≤ 64) },
 }
 
@@ -53,10 +55,10 @@ impl<T: Piece> Board<T> {
         requires board { seat.old.table_id ≡ board_id self.now }
         requires first { IsFirst seat.old.me.0.role }
         requires closed { seat.old.me.0.round.running ≡ false }
-        requires full { (core : ℕ) → core < cores_of self.now → IsFull (stand_at seat.old.me.0 core).what }
+        requires full { (core : ℕ) → core < cores_of self.now → IsFull (state_at seat.old.me.0 core).slot }
         requires rounds { seat.old.me.0.round.rounds < 2 ^ 40 }
         ensures board { seat.new.table_id ≡ seat.old.table_id }
-        ensures seat { seat.new.me ≡ (begun seat.old.me.0 result, seat.old.me.1) }
+        ensures seat { seat.new.me ≡ (round_opened seat.old.me.0 result, seat.old.me.1) }
         ensures base { result < 2 ^ 48 }
     {
         self.table.shared.load::<Begin>(seat, 0)
@@ -68,13 +70,13 @@ impl<T: Piece> Board<T> {
         requires open { seat.old.me.0.round.running ≡ true }
         requires base { base ≡ seat.old.me.0.round.base }
         requires free { HoldsNone seat.old.me }
-        requires untold { seat.old.me.0.told ≡ false }
+        requires no_none_yet { seat.old.me.0.saw_none ≡ false }
         ensures board { seat.new.table_id ≡ seat.old.table_id }
         ensures number { (found : ℕ) × (base ≤ found) × MatchOption result (base + cores_of self.now ≤ found)
             (λ claim. (claim.number ≡ found) × (claim.base ≡ base) × (found ≡ base + claim.core)) }
         ensures some { IfSome result (λ claim. (claim.core < cores_of self.now)
             × DrewCore T.core_of T.turns_of T.stem_of T.is_settled (cores_of self.now) claim.core seat.old.me seat.new.me) }
-        ensures none { IfNone result (seat.new.me ≡ (ends seat.old.me.0, [])) }
+        ensures none { IfNone result (seat.new.me ≡ (after_empty_draw seat.old.me.0, [])) }
     {
         let number = self.table.shared.fetch_add::<Draw<T>>(seat, 0, 1);
         if number < base + self.table.slot_count() as u64 {
@@ -90,13 +92,13 @@ impl<T: Piece> Board<T> {
         requires board { seat.old.table_id ≡ board_id self.now }
         requires first { IsFirst seat.old.me.0.role }
         requires open { seat.old.me.0.round.running ≡ true }
-        requires spare { 0 < seat.old.me.0.spare }
+        requires seats_left { 0 < seat.old.me.0.seats_left }
         ensures ok { IsOk result }
         ensures board { seat.new.table_id ≡ seat.old.table_id }
-        ensures seat { seat.new.me ≡ (gave seat.old.me.0, seat.old.me.1) }
-        ensures other { IfOk result (λ other. (other.table_id ≡ seat.old.table_id) × (other.me ≡ (worker seat.old.me.0, []))) }
+        ensures seat { seat.new.me ≡ (after_split seat.old.me.0, seat.old.me.1) }
+        ensures other { IfOk result (λ other. (other.table_id ≡ seat.old.table_id) × (other.me ≡ (split_seat seat.old.me.0, []))) }
     {
-        Ok(self.table.shared.split_seat::<Cut>(seat))
+        Ok(self.table.shared.split_seat::<SplitAndJoin>(seat))
     }
 
     /// Joins a seat that was split off.
@@ -107,9 +109,9 @@ impl<T: Piece> Board<T> {
         requires other { IsOther other.me.0.role }
         requires free { HoldsNone other.me }
         ensures board { seat.new.table_id ≡ seat.old.table_id }
-        ensures seat { seat.new.me ≡ (both seat.old.me.0 other.me.0, seat.old.me.1) }
+        ensures seat { seat.new.me ≡ (after_join seat.old.me.0 other.me.0, seat.old.me.1) }
     {
-        self.table.shared.join_seat::<Cut>(seat, other);
+        self.table.shared.join_seat::<SplitAndJoin>(seat, other);
     }
 
     /// Takes the piece that is claimed. It is taken once.
@@ -132,9 +134,9 @@ impl<T: Piece> Board<T> {
         requires claim { seat.old.me.0.claim ≡ claim.core ∷ [] }
         requires core { claim.core < cores_of self.now }
         requires taken { seat.old.me.1 ≡ (claim.core, None) ∷ [] }
-        requires piece { IsPiece T.core_of T.turns_of T.stem_of T.is_settled claim.core (stand_at seat.old.me.0 claim.core) 1 piece }
+        requires piece { IsPiece T.core_of T.turns_of T.stem_of T.is_settled claim.core (state_at seat.old.me.0 claim.core) 1 piece }
         ensures board { seat.new.table_id ≡ seat.old.table_id }
-        ensures seat { seat.new.me ≡ (puts seat.old.me.0, []) }
+        ensures seat { seat.new.me ≡ (after_put seat.old.me.0, []) }
     {
         let core = claim.core as usize;
         self.table.shared.exchange(seat, core, Some(piece));
@@ -150,20 +152,18 @@ impl<T: Piece> Board<T> {
         requires closed { seat.old.me.0.round.running ≡ false }
         requires free { HoldsNone seat.old.me }
         requires core { T.core_of piece < cores_of self.now }
-        requires empty { IsEmpty (stand_at seat.old.me.0 (T.core_of piece)).what }
+        requires empty { IsEmpty (state_at seat.old.me.0 (T.core_of piece)).slot }
         ensures board { seat.new.table_id ≡ seat.old.table_id }
-        ensures cores { length seat.old.me.0.round.stands ≡ cores_of self.now }
+        ensures cores { length seat.old.me.0.round.cores ≡ cores_of self.now }
         ensures sound { T.is_sound piece }
         ensures seat { seat.new.me ≡ (
-          restood seat.old.me.0 (T.core_of piece)
-              (filled (stand_at seat.old.me.0 (T.core_of piece)) (T.turns_of piece) (T.stem_of piece)),
+          with_core seat.old.me.0 (T.core_of piece)
+              (filled (state_at seat.old.me.0 (T.core_of piece)) (T.turns_of piece) (T.stem_of piece)),
           [],
         ) }
     {
-        let core = piece.core() as usize;
-        self.table.shared.load::<Reach<T>>(seat, core + 1);
-        self.table.shared.exchange(seat, core, Some(piece));
-        self.table.shared.load::<Shelve<T>>(seat, core + 1);
+        let core = piece.core();
+        self.change(seat, core, Some(piece));
     }
 
     /// Takes the piece out of the slot of its core, which is full, once all other seats are joined. The first `fetch` of an open round
@@ -171,22 +171,48 @@ impl<T: Piece> Board<T> {
     pub fn fetch(&self, seat: &mut Seat<T>, core: u32) -> T
         requires board { seat.old.table_id ≡ board_id self.now }
         requires first { IsFirst seat.old.me.0.role }
-        requires alone { seat.old.me.0.outs ≡ 0 }
+        requires alone { seat.old.me.0.seats_out ≡ 0 }
         requires free { HoldsNone seat.old.me }
         requires core { core < cores_of self.now }
-        requires full { IsFull (stand_at seat.old.me.0 core).what }
+        requires full { IsFull (state_at seat.old.me.0 core).slot }
         ensures board { seat.new.table_id ≡ seat.old.table_id }
-        ensures cores { length seat.old.me.0.round.stands ≡ cores_of self.now }
-        ensures piece { IsPiece T.core_of T.turns_of T.stem_of T.is_settled core (stand_at (rested seat.old.me.0) core) 0 result }
-        ensures each_once { seat.old.me.0.round.running ≡ true → seat.old.me.0.told ≡ true
+        ensures cores { length seat.old.me.0.round.cores ≡ cores_of self.now }
+        ensures piece { IsPiece T.core_of T.turns_of T.stem_of T.is_settled core (state_at (round_closed seat.old.me.0) core) 0 result }
+        ensures each_once { seat.old.me.0.round.running ≡ true → seat.old.me.0.saw_none ≡ true
             → (other : ℕ) → times other seat.old.me.0.done ≡ below other (cores_of self.now) }
         ensures closed { seat.new.me.0.round.running ≡ false }
-        ensures seat { seat.new.me ≡ (restood (rested seat.old.me.0) core (emptied (stand_at (rested seat.old.me.0) core)), []) }
+        ensures seat { seat.new.me ≡ (with_core (round_closed seat.old.me.0) core (emptied (state_at (round_closed seat.old.me.0) core)), []) }
+    {
+        self.change(seat, core, None).unwrap()
+    }
+
+    /// Changes what is in the slot of a core, and answers what was there, by the first seat while no other is out. An open round ends
+    /// before that.
+    fn change(&self, seat: &mut Seat<T>, core: u32, new: Option<T>) -> Option<T>
+        requires board { seat.old.table_id ≡ board_id self.now }
+        requires first { IsFirst seat.old.me.0.role }
+        requires alone { (seat.old.me.0.round.running ≡ false) ⊎ (seat.old.me.0.seats_out ≡ 0) }
+        requires free { HoldsNone seat.old.me }
+        requires core { core < cores_of self.now }
+        requires at_home { IsFull (state_at seat.old.me.0 core).slot ⊎ IsEmpty (state_at seat.old.me.0 core).slot }
+        requires new { (piece : T) → new ≡ Some piece → T.core_of piece ≡ core }
+        ensures board { seat.new.table_id ≡ seat.old.table_id }
+        ensures cores { length seat.old.me.0.round.cores ≡ cores_of self.now }
+        ensures found { FitsAs T.core_of T.turns_of T.stem_of T.is_settled (state_at (round_closed seat.old.me.0) core).slot core
+            (state_at (round_closed seat.old.me.0) core) result }
+        ensures each_once { seat.old.me.0.round.running ≡ true → seat.old.me.0.saw_none ≡ true
+            → (other : ℕ) → times other seat.old.me.0.done ≡ below other (cores_of self.now) }
+        ensures closed { seat.new.me.0.round.running ≡ false }
+        ensures seat { seat.new.me ≡ (
+          with_core (round_closed seat.old.me.0) core
+              (with_slot T.core_of T.turns_of T.stem_of T.is_settled (state_at (round_closed seat.old.me.0) core) ((core, new) ∷ [])),
+          [],
+        ) }
     {
         let slot = core as usize;
-        self.table.shared.load::<Reach<T>>(seat, slot + 1);
-        let piece = self.table.shared.exchange(seat, slot, None).unwrap();
-        self.table.shared.load::<Shelve<T>>(seat, slot + 1);
-        piece
+        self.table.shared.load::<TakeSlot<T>>(seat, slot + 1);
+        let found = self.table.shared.exchange(seat, slot, new);
+        self.table.shared.load::<ReturnSlot<T>>(seat, slot + 1);
+        found
     }
 }

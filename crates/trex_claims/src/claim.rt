@@ -1,4 +1,4 @@
-// A claim on a core.
+// A claim on a core, which a draw gives.
 
 ghost use Rattle.std.specs.Prelude.{◌≡◌};
 

@@ -1,4 +1,4 @@
-// A piece of work that takes turns.
+// What a piece of work is: the trait `Piece`.
 
 ghost use Rattle.std.specs.Prelude.{◌≡◌, ℕ, ◌+◌, ◌<◌, ◌^◌, List};
 

@@ -1,8 +1,8 @@
-// The rule of a board's table, and what its steps tell the seat that takes them.
+// The rule of a board's table, and what each step makes of what its seat knows.
 
 ghost use Rattle.trex_claims.specs.Views.{spent};
 ghost use Rattle.trex_claims.specs.Board.{Rule};
-ghost use Rattle.trex_claims.specs.Moves.{opening_view, gave, worker, both, Began, Drew, PutBack, Reached, Homed};
+ghost use Rattle.trex_claims.specs.Moves.{opening_view, after_split, split_seat, after_join, Began, Drew, PutBack, TookSlot, ReturnedSlot};
 ghost use Rattle.std.specs.Prelude.{◌-◌};
 
 use crate::piece::Piece;
@@ -10,28 +10,28 @@ use crate::view::View;
 use atomic_table::{Join, Play, Split, TableRule};
 use std::marker::PhantomData;
 
-/// The rule. The table is told how many cores there are.
-pub struct Order<T> {
+/// The rule. The table is made for a number of cores.
+pub struct BoardRule<T> {
     marker: PhantomData<T>,
 }
 
-impl<T: Piece> TableRule<Option<T>, View, u32> for Order<T> {
+impl<T: Piece> TableRule<Option<T>, View, u32> for BoardRule<T> {
     ghost holds = { λ _. Rule T.core_of T.turns_of T.stem_of T.is_settled };
 
     ghost first = { opening_view };
 }
 
 /// A seat is split off, and joined again.
-pub struct Cut;
+pub struct SplitAndJoin;
 
-impl Split<View> for Cut {
-    ghost left = { gave };
+impl Split<View> for SplitAndJoin {
+    ghost left = { after_split };
 
-    ghost right = { worker };
+    ghost right = { split_seat };
 }
 
-impl Join<View> for Cut {
-    ghost both = { both };
+impl Join<View> for SplitAndJoin {
+    ghost both = { after_join };
 
     ghost spent = { spent };
 }
@@ -60,19 +60,19 @@ impl<T> Play<Option<T>, View> for PutBackCore {
 }
 
 /// The slot of the core of this turn word is taken by the first seat.
-pub struct Reach<T> {
+pub struct TakeSlot<T> {
     marker: PhantomData<T>,
 }
 
-impl<T: Piece> Play<Option<T>, View> for Reach<T> {
-    ghost then = { λ step before _ after. Reached T.core_of T.turns_of T.stem_of T.is_settled step.slots (step.word - 1) before after };
+impl<T: Piece> Play<Option<T>, View> for TakeSlot<T> {
+    ghost then = { λ step before _ after. TookSlot T.core_of T.turns_of T.stem_of T.is_settled step.slots (step.word - 1) before after };
 }
 
 /// The slot of the core of this turn word is given back by the first seat.
-pub struct Shelve<T> {
+pub struct ReturnSlot<T> {
     marker: PhantomData<T>,
 }
 
-impl<T: Piece> Play<Option<T>, View> for Shelve<T> {
-    ghost then = { λ step before _ after. Homed T.core_of T.turns_of T.stem_of T.is_settled (step.word - 1) before after };
+impl<T: Piece> Play<Option<T>, View> for ReturnSlot<T> {
+    ghost then = { λ step before _ after. ReturnedSlot T.core_of T.turns_of T.stem_of T.is_settled (step.word - 1) before after };
 }

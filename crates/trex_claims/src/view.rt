@@ -9,23 +9,24 @@ pub enum Role {
 }
 
 /// What is in a slot: no piece, or a piece. It is out where a seat is about to change it.
-pub enum What {
+pub enum SlotState {
     Empty,
     Out,
     Full,
 }
 
-/// What is known of a core: its slot, the piece in it, and its turn word. In an open round this is how they were when it began.
-pub struct Stand {
-    pub what: What,
+/// What is known of a core: its slot, the piece in it, and its turn word. In an open round this is how they were when the round began.
+pub struct CoreState {
+    /// What is in its slot.
+    pub slot: SlotState,
     /// How many turns the piece took.
     pub turns: u64,
     /// The stem of the piece.
     pub stem: [[u64; 0]; 0],
     /// Whether it is known that the piece is settled.
     pub settled: bool,
-    /// The turn word: how often pieces of this core were put back.
-    pub mark: u64,
+    /// How often pieces of this core were put back, which its turn word counts.
+    pub puts_before: u64,
 }
 
 /// What all seats know of the round.
@@ -36,24 +37,26 @@ pub struct Round {
     pub base: u64,
     /// How many rounds were opened.
     pub rounds: u64,
-    /// The cores.
-    pub stands: [Stand; 0],
+    /// What is known of each core.
+    pub cores: [CoreState; 0],
 }
 
 /// What a seat knows.
 pub struct View {
+    /// Which kind of seat it is.
     pub role: Role,
+    /// The round, as all seats know it.
     pub round: Round,
     /// The core that it claims, if it claims one.
     pub claim: [u64; 0],
     /// The cores that it put back in the open round.
     pub done: [u64; 0],
-    /// Whether it was told None in the open round.
-    pub told: bool,
-    /// How often it was told None in the open round, and the seats that were joined to it.
-    pub nones: u64,
+    /// Whether it drew a number past the last core in the open round, and so saw None.
+    pub saw_none: bool,
+    /// How often it, and the seats that were joined to it, did so in the open round.
+    pub empty_draws: u64,
     /// How many seats may still be split off it in the open round.
-    pub spare: u64,
+    pub seats_left: u64,
     /// How many seats were split off it and not yet joined to it.
-    pub outs: u64,
+    pub seats_out: u64,
 }

@@ -1,5 +1,5 @@
 -- One packet more in a batch.
-use Rattle.std.proofs.Common.{◌≡◌, ◌+◌, false, Some, None, List, [], ◌∷◌, ◌++◌, drop, length, map, slice_get, refl, sym, ap, ◌∙◌, append_assoc}
+use Rattle.std.proofs.Common.{◌≡◌, false, Some, None, List, [], ◌∷◌, ◌++◌, drop, length, map, slice_get, refl, sym, ap, ◌∙◌, append_assoc}
 use Rattle.trex_merge.specs.Frames.{Frame}
 use Rattle.trex_sched.specs.declared.slot.Slot.{Slot}
 use Rattle.trex_core.specs.Batches.{IsWithin, batch_of, has_room_for}

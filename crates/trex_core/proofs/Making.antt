@@ -1,20 +1,20 @@
 -- A packet, made from what its stream's packets are made of.
-use Rattle.std.proofs.Common.{◌≡◌, ℕ, zero, suc, ◌+◌, ◌*◌, ◌%◌, ◌<◌, ◌^◌, Option, None, Some, List, [], ◌∷◌, ◌++◌, get_or, length, map, take, slice_get, refl, sym, ap, ◌∙◌, subst, arith}
+use Rattle.std.proofs.Common.{◌≡◌, ℕ, zero, suc, ◌+◌, ◌*◌, ◌<◌, ◌^◌, Option, None, Some, List, [], ◌∷◌, ◌++◌, get_or, length, map, take, slice_get, refl, sym, ap, ◌∙◌, subst, arith}
 use Rattle.std.specs.Option.{IsSomeAnd, option_map, option_map_or}
 use Rattle.std.proofs.lemmas.List.{length-map, map_push, take_more}
 use Rattle.std.proofs.lemmas.Option.{slice_get-get_or, slice_get_within}
 use Rattle.trex_core.specs.Plan.{packet_bytes}
-use Rattle.trex_core.specs.Registers.{values_at}
 use Rattle.trex_profile.specs.declared.member.StreamSpec.{StreamSpec}
-use Rattle.trex_profile.specs.Packets.{packet_of, program, stamp_at, variables}
+use Rattle.trex_profile.specs.Packets.{packet_of, program, stamp_at, values_of}
+use Rattle.trex_profile.specs.declared.flow.Flow.{Flow}
+use Rattle.trex_profile.specs.Flow.{stamp_with}
 use Rattle.trex_profile.specs.Spec.{IsSpecOf}
 use Rattle.trex_profile.specs.Stream.{Stream}
 use Rattle.trex_sched.specs.declared.slot.Slot.{Slot}
 use Rattle.trex_stamp.specs.declared.header.Stamp.{Stamp}
 use Rattle.trex_vars.specs.declared.value.VarValue.{VarValue}
-use Rattle.trex_vars.specs.Variable.{Variable}
 use Rattle.trex_vm.specs.declared.instr.Instr.{Instr}
-use Rattle.trex_vm.specs.Packet.{packet}
+use Rattle.trex_vm.specs.Packet.{packet, version_of}
 use Rattle.trex_vm.specs.Program.{ProgramView}
 
 -- what is said of a value that there is
@@ -28,41 +28,45 @@ at_stream p position s P there said = subst (λ (o : Option Stream). IsSomeAnd o
 
 -- the packet of these parts is that of the stream
 pub packet_is : (p : List Stream) (base : ℕ) (slot : Slot) (s : Stream) (spec : StreamSpec) (values : List VarValue) (stamp : Option Stamp) (template : List ℕ) (time : ℕ)
-    → slice_get p slot.stream ≡ Some s → IsSpecOf s spec → values ≡ values_at (variables s) slot.number → time ≡ base * 10 ^ 9 + slot.time
-    → stamp ≡ option_map (λ flow. record { flow = flow; sequence = slot.number % 2 ^ 32; time = time }) spec.flow → template ≡ spec.template.items
+    → slice_get p slot.stream ≡ Some s → IsSpecOf s spec → values ≡ values_of s slot.number slot.in_run → time ≡ base * 10 ^ 9 + slot.time
+    → stamp ≡ option_map (λ flow. stamp_with flow slot.number time) spec.flow → template ≡ spec.template.items
     → packet spec.program.instrs values stamp template ≡ packet_bytes p base slot
 unfolding packet_bytes
 packet_is p base slot s spec values stamp template time there is read due header bytes =
     let instrs : spec.program.instrs ≡ program s = ap (λ (view : ProgramView). view.instrs) is.plan in
     let stamped : stamp ≡ stamp_at s slot.number (base * 10 ^ 9 + slot.time) =
-    header
-    ∙ ap (option_map (λ (flow : ℕ). let h : Stamp = record { flow = flow; sequence = slot.number % 2 ^ 32; time = time } in h)) is.flow
-    ∙ ap (λ t. stamp_at s slot.number t) due in
+    header ∙ ap (option_map (λ (flow : Flow). stamp_with flow slot.number time)) is.flow ∙ ap (stamp_at s slot.number) due in
     ap (λ (is : List Instr). packet is values stamp template) instrs
     ∙ ap (λ (vs : List VarValue). packet (program s) vs stamp template) read
-    ∙ ap (λ (h : Option Stamp). packet (program s) (values_at (variables s) slot.number) h template) stamped
-    ∙ ap (λ (t : List ℕ). packet (program s) (values_at (variables s) slot.number) (stamp_at s slot.number (base * 10 ^ 9 + slot.time)) t) (bytes ∙ is.template)
-    ∙ ap (λ (o : Option Stream). option_map_or (λ (q : Stream). packet_of q slot.number (base * 10 ^ 9 + slot.time)) o []) (sym there)
+    ∙ ap (λ (h : Option Stamp). packet (program s) (values_of s slot.number slot.in_run) h template) stamped
+    ∙ ap (λ (t : List ℕ). packet (program s) (values_of s slot.number slot.in_run) (stamp_at s slot.number (base * 10 ^ 9 + slot.time)) t) (bytes ∙ is.template)
+    ∙ ap (λ (o : Option Stream). option_map_or (λ (q : Stream). packet_of q slot.number slot.in_run (base * 10 ^ 9 + slot.time)) o []) (sym there)
 
--- where rows have the variables of the streams, there are as many
-pub rows_long : {X : Type 0} (f : X → List Variable) (rows : List X) (p : List Stream) → map f rows ≡ map variables p → length rows ≡ length p
-rows_long f rows p same = sym (length-map rows f) ∙ ap length same ∙ length-map p variables
+-- the version of a packet's latency header is its flow's
+pub version-stamp_with : (flow : Option Flow) (number time : ℕ)
+    → version_of (option_map (λ flow. stamp_with flow number time) flow) ≡ option_map (λ flow. flow.version) flow
+version-stamp_with None number time = refl
+version-stamp_with (Some flow) number time = refl
 
--- the row at a position has those of the stream there
-pub row_is : {X : Type 0} (f : X → List Variable) (rows : List X) (p : List Stream) (position : ℕ) (row : X) → map f rows ≡ map variables p
-    → position < length p → row ≡ get_or rows position row → IsSomeAnd (slice_get p position) (λ s. f row ≡ variables s)
-row_is f rows [] position row same below is = absurd (omega arith)
-row_is f [] (s ∷ p) position row same below is = absurd (cc)
-row_is f (r ∷ rows) (s ∷ p) zero row same below is = let first : f r ≡ variables s = cc in ap f is ∙ first
-row_is f (r ∷ rows) (s ∷ p) (suc position) row same below is =
-    let rest : map f rows ≡ map variables p = cc in row_is f rows p position row rest (omega arith) is
+-- there are as many rows as streams, where each shows the same of both
+pub rows_long : {X Y : Type 0} (f : X → Y) (g : Stream → Y) (rows : List X) (p : List Stream) → map f rows ≡ map g p → length rows ≡ length p
+rows_long f g rows p same = sym (length-map rows f) ∙ ap length same ∙ length-map p g
+
+-- the row at a position shows that of the stream there
+pub row_is : {X Y : Type 0} (f : X → Y) (g : Stream → Y) (rows : List X) (p : List Stream) (position : ℕ) (row : X) → map f rows ≡ map g p
+    → position < length p → row ≡ get_or rows position row → IsSomeAnd (slice_get p position) (λ s. f row ≡ g s)
+row_is f g rows [] position row same below is = absurd (omega arith)
+row_is f g [] (s ∷ p) position row same below is = absurd (cc)
+row_is f g (r ∷ rows) (s ∷ p) zero row same below is = let first : f r ≡ g s = cc in ap f is ∙ first
+row_is f g (r ∷ rows) (s ∷ p) (suc position) row same below is =
+    let rest : map f rows ≡ map g p = cc in row_is f g rows p position row rest (omega arith) is
 
 -- one row more
-pub row_more : {X : Type 0} (f : X → List Variable) (rows : List X) (p : List Stream) (position : ℕ) (row : X) (s : Stream) → map f rows ≡ map variables (take position p)
-    → slice_get p position ≡ Some s → f row ≡ variables s → map f (rows ++ row ∷ []) ≡ map variables (take (position + 1) p)
-row_more f rows p position row s same there is =
+pub row_more : {X Y : Type 0} (f : X → Y) (g : Stream → Y) (rows : List X) (p : List Stream) (position : ℕ) (row : X) (s : Stream) → map f rows ≡ map g (take position p)
+    → slice_get p position ≡ Some s → f row ≡ g s → map f (rows ++ row ∷ []) ≡ map g (take (position + 1) p)
+row_more f g rows p position row s same there is =
     let below = slice_get_within p position s there in
     let found : get_or p position s ≡ s = let e = slice_get-get_or p position s below in cc in
     let more : take (position + 1) p ≡ take position p ++ s ∷ [] = take_more p position s below ∙ ap (λ x. take position p ++ x ∷ []) found in
-    map_push f rows row ∙ ap (λ xs. xs ++ f row ∷ []) same ∙ ap (λ v. map variables (take position p) ++ v ∷ []) is
-    ∙ sym (map_push variables (take position p) s) ∙ ap (map variables) (sym more)
+    map_push f rows row ∙ ap (λ xs. xs ++ f row ∷ []) same ∙ ap (λ v. map g (take position p) ++ v ∷ []) is
+    ∙ sym (map_push g (take position p) s) ∙ ap (map g) (sym more)

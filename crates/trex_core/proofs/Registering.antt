@@ -1,12 +1,15 @@
 -- Registers that stand at a packet.
-use Rattle.std.proofs.Common.{◌≡◌, ℕ, ◌+◌, ◌<◌, ◌^◌, All, List, [], ◌∷◌, None, get_or, length, map, refl, sym, ap, ◌∙◌, subst, arith}
+use Rattle.std.proofs.Common.{◌≡◌, ℕ, ◌<◌, Bool, true, false, cond, List, [], ◌∷◌, None, get_or, length, map, refl, sym, ap, ◌∙◌, arith}
 use Rattle.std.proofs.lemmas.List.{get_or-map, length-map}
-use Rattle.std.proofs.lemmas.List.Elements.{All-get_or, All-map}
-use Rattle.trex_core.specs.Registers.{AreAt, moved_to, stand_at, values_at, variables_of}
+use Rattle.std.proofs.lemmas.List.Elements.{All-get_or}
+use Rattle.std.specs.List.{AllByRecursion}
+use Rattle.trex_core.specs.declared.registers.Move.{Move}
+use Rattle.trex_core.specs.declared.registers.Register.{Register}
+use Rattle.trex_core.specs.Registers.{IsAt, end_of, moved, restarts_of, shown, variables_of}
+use Rattle.trex_profile.specs.Packets.{index_of, values_at}
 use Rattle.trex_vars.specs.Check.{fault_of}
 use Rattle.trex_vars.specs.declared.spec.VarSpec.{VarSpec}
 use Rattle.trex_vars.specs.declared.value.VarValue.{VarValue}
-use Rattle.trex_vars.specs.Stand.{Stand}
 use Rattle.trex_vars.specs.Value.{value_at}
 use Rattle.trex_vars.specs.Variable.{Variable, variable_of}
 use Rattle.trex_vm.specs.Program.{AreSound}
@@ -19,51 +22,36 @@ sound_at vars k spec sound below is =
     All-get_or (λ v. fault_of v ≡ None) (map variable_of vars) k (variable_of spec) (omega (arith, length-map vars variable_of)) sound in
     ap (λ s. fault_of (variable_of s)) is ∙ ap fault_of (sym (get_or-map variable_of vars k spec (variable_of spec) below)) ∙ here
 
--- the variables of registers that stand at a packet
-pub variables-stand : (cores number : ℕ) (variables : List Variable) → variables_of (map (stand_at cores number) variables) ≡ variables
-variables-stand cores number [] = refl
-variables-stand cores number (v ∷ variables) = ap (λ (vs : List Variable). v ∷ vs) (variables-stand cores number variables)
+module _ (cores number place number' place' : ℕ) (by_number by_place : Move) where
+  -- the move of a variable that restarts, or of another one, leads to the packet's index
+  move_to : (restarts : Bool) (index stride : ℕ) → stride ≡ cores → index ≡ index_of restarts number place → end_of by_number number cores ≡ number'
+      → end_of by_place place cores ≡ place' → end_of (cond restarts by_place by_number) index stride ≡ index_of restarts number' place'
+  move_to true index stride same is to_number to_place = cc
+  move_to false index stride same is to_number to_place = cc
 
--- a register that goes to a packet keeps its variable
-pub variables-moved : (number : ℕ) (stands : List Stand) → variables_of (map (moved_to number) stands) ≡ variables_of stands
-variables-moved number [] = refl
-variables-moved number (s ∷ stands) = ap (λ (vs : List Variable). s.variable ∷ vs) (variables-moved number stands)
+  -- registers that stand at a packet move to another one
+  pub moved_at : (rs : List Register) → AllByRecursion (IsAt cores number place) rs → end_of by_number number cores ≡ number' → end_of by_place place cores ≡ place'
+      → AllByRecursion (IsAt cores number' place') (map (moved by_number by_place) rs)
+  moved_at [] at to_number to_place = tt
+  moved_at (r ∷ rs) at to_number to_place = (
+    record { cores_are = at.0.cores_are; index = move_to r.restarts r.strided.number r.strided.cores at.0.cores_are at.0.index to_number to_place },
+    moved_at rs at.1 to_number to_place,
+  )
 
--- where it stands then
-stand-moved : (cores number new : ℕ) (variables : List Variable) → map (moved_to new) (map (stand_at cores number) variables) ≡ map (stand_at cores new) variables
-stand-moved cores number new [] = refl
-stand-moved cores number new (v ∷ variables) = ap (λ (ss : List Stand). stand_at cores new v ∷ ss) (stand-moved cores number new variables)
+-- a register that moves keeps its variable
+pub variables-moved : (by_number by_place : Move) (rs : List Register) → variables_of (map (moved by_number by_place) rs) ≡ variables_of rs
+variables-moved by_number by_place [] = refl
+variables-moved by_number by_place (r ∷ rs) = ap (λ (vs : List Variable). r.strided.variable ∷ vs) (variables-moved by_number by_place rs)
 
--- what is read there
-read_is : (cores number : ℕ) (variables : List Variable)
-    → map (λ (s : Stand). value_at s.variable s.number) (map (stand_at cores number) variables) ≡ values_at variables number
-read_is cores number [] = refl
-read_is cores number (v ∷ variables) = ap (λ (vs : List VarValue). value_at v number ∷ vs) (read_is cores number variables)
+-- and whether it restarts
+pub restarts-moved : (by_number by_place : Move) (rs : List Register) → restarts_of (map (moved by_number by_place) rs) ≡ restarts_of rs
+restarts-moved by_number by_place [] = refl
+restarts-moved by_number by_place (r ∷ rs) = ap (λ (bs : List Bool). r.restarts ∷ bs) (restarts-moved by_number by_place rs)
 
--- the registers of variables, and their values
-pub started_is : (cores number : ℕ) (variables : List Variable) (stands : List Stand) (values : List VarValue) → number < 2 ^ 63
-    → stands ≡ map (stand_at cores number) variables → values ≡ values_at variables number → AreAt cores number stands values
-started_is cores number variables stands values small stand read =
-    let same : variables_of stands ≡ variables = ap variables_of stand ∙ variables-stand cores number variables in
-    record {
-      small = small;
-      stand = stand ∙ ap (map (stand_at cores number)) (sym same);
-      read = read ∙ ap (λ vs. values_at vs number) (sym same);
-    }
-
--- they go to another packet
-pub moved_is : (cores number new : ℕ) (stands : List Stand) (values : List VarValue) → new < 2 ^ 63 → AreAt cores number stands values
-    → AreAt cores new (map (moved_to new) stands) (map (λ s. value_at s.variable s.number) (map (moved_to new) stands))
-moved_is cores number new stands values small at =
-    let variables = variables_of stands in
-    let stand : map (moved_to new) stands ≡ map (stand_at cores new) variables =
-    ap (map (moved_to new)) at.stand ∙ stand-moved cores number new variables in
-    started_is cores new variables (map (moved_to new) stands) (map (λ s. value_at s.variable s.number) (map (moved_to new) stands)) small stand
-    (ap (map (λ (s : Stand). value_at s.variable s.number)) stand ∙ read_is cores new variables)
-
--- the core's next packet is one step away from each
-pub next_is : (cores number new : ℕ) (stands : List Stand) (values : List VarValue) → AreAt cores number stands values → number + cores ≡ new
-    → All (λ s. s.number + s.cores ≡ new) stands
-next_is cores number new stands values at next =
-    subst (All (λ (s : Stand). s.number + s.cores ≡ new)) (sym at.stand)
-    (All-map (λ (s : Stand). s.number + s.cores ≡ new) (stand_at cores number) (variables_of stands) (λ k d below. next))
+-- what registers show that stand at a packet
+pub shown_is : (cores number place : ℕ) (rs : List Register) → AllByRecursion (IsAt cores number place) rs
+    → map shown rs ≡ values_at (variables_of rs) (restarts_of rs) number place
+shown_is cores number place [] at = refl
+shown_is cores number place (r ∷ rs) at =
+    ap (λ n. value_at r.strided.variable n ∷ map shown rs) at.0.index
+    ∙ ap (λ (vs : List VarValue). value_at r.strided.variable (index_of r.restarts number place) ∷ vs) (shown_is cores number place rs at.1)

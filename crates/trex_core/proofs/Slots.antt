@@ -18,16 +18,17 @@ named_below n [] stream below has = absurd has
 named_below n (leg ∷ legs) stream below (inl same) = let first = below.0 in omega arith
 named_below n (leg ∷ legs) stream below (inr later) = named_below n legs stream below.1 later
 
--- three facts of each packet
+-- four facts of each packet
 each_is : (p : List Stream) (legs : List Leg) (d : ℕ) (slots : List Slot) → d ≤ 10 ^ 18 → AllByRecursion (λ leg. leg.stream < length p) legs
-    → AllByRecursion (λ slot. slot.time < d) slots → AllByRecursion (λ slot. slot.number ≤ slot.time) slots
+    → AllByRecursion (λ slot. slot.time < d) slots → AllByRecursion (λ slot. slot.number ≤ slot.time) slots → AllByRecursion (λ slot. slot.in_run ≤ slot.number) slots
     → AllByRecursion (λ slot. Has (map (λ leg. leg.stream) legs) slot.stream) slots → AllByRecursion (IsSlotOf p) slots
-each_is p legs d [] short within below numbers named = tt
-each_is p legs d (slot ∷ slots) short within below numbers named =
+each_is p legs d [] short within below numbers places named = tt
+each_is p legs d (slot ∷ slots) short within below numbers places named =
     let time = below.0 in
-    let number = numbers.0 in (
-      record { stream = named_below (length p) legs slot.stream within named.0; time = omega arith; number = omega arith },
-      each_is p legs d slots short within below.1 numbers.1 named.1,
+    let number = numbers.0 in
+    let place = places.0 in (
+      record { stream = named_below (length p) legs slot.stream within named.0; time = omega arith; number = omega arith; place = omega arith },
+      each_is p legs d slots short within below.1 numbers.1 places.1 named.1,
     )
 
 -- what the chains send
@@ -35,13 +36,14 @@ pub all_slots : (p : List Stream) (d : ℕ) (chains : List Chain) → d ≤ 10 ^
     → AllByRecursion (λ chain. AllByRecursion (λ leg. leg.stream < length p) chain.legs) chains
     → ((chain : Chain) → AllByRecursion (λ slot. slot.time < d) (entries chain d))
     → ((chain : Chain) → IsChain chain → AllByRecursion (λ slot. slot.number ≤ slot.time) (entries chain d))
+    → ((chain : Chain) → IsChain chain → AllByRecursion (λ slot. slot.in_run ≤ slot.number) (entries chain d))
     → ((chain : Chain) → IsChain chain → AllByRecursion (λ slot. Has (map (λ leg. leg.stream) chain.legs) slot.stream) (entries chain d))
     → AllByRecursion (IsSlotOf p) (all_entries chains d)
-all_slots p d [] short are within below numbers named = tt
-all_slots p d (chain ∷ chains) short are within below numbers named =
+all_slots p d [] short are within below numbers places named = tt
+all_slots p d (chain ∷ chains) short are within below numbers places named =
     all-append (IsSlotOf p) (entries chain d) (all_entries chains d)
-    (each_is p chain.legs d (entries chain d) short within.0 (below chain) (numbers chain are.0) (named chain are.0))
-    (all_slots p d chains short are.1 within.1 below numbers named)
+    (each_is p chain.legs d (entries chain d) short within.0 (below chain) (numbers chain are.0) (places chain are.0) (named chain are.0))
+    (all_slots p d chains short are.1 within.1 below numbers places named)
 
 -- what holds of all values holds of those in order
 pub all-ordered : (P : Slot → Type 0) (slots : List Slot) → AllByRecursion P slots → AllByRecursion P (ordered key_of slots)

@@ -14,10 +14,10 @@ use Rattle.trex_sched.specs.Walks.{all_entries}
 unfoldable pub schedule : List Stream → ℕ → List Slot
 schedule p duration = ordered key_of (all_entries (chains_of p) duration)
 
--- the bytes of a packet: those of its stream at its number and its absolute time, where the base is in seconds since 1970
+-- the bytes of a packet: those of its stream at its number, its place in its run and its absolute time, where the base is in seconds since 1970
 unfoldable pub packet_bytes : List Stream → ℕ → Slot → List ℕ
 packet_bytes p base slot =
-    option_map_or (λ s. packet_of s slot.number (base * 10 ^ 9 + slot.time)) (slice_get p slot.stream) []
+    option_map_or (λ s. packet_of s slot.number slot.in_run (base * 10 ^ 9 + slot.time)) (slice_get p slot.stream) []
 
 -- the packet with its bytes
 abbrev pub frame_at : List Stream → ℕ → Slot → Frame
@@ -39,3 +39,4 @@ pub record IsSlotOf (p : List Stream) (slot : Slot) : Type 0 where
   pub stream : slot.stream < length p
   pub time : slot.time < 10 ^ 18
   pub number : slot.number < 10 ^ 18
+  pub place : slot.in_run < 10 ^ 18

@@ -122,7 +122,7 @@ impl Batch {
     }
 }
 
-// whether beside so many packets of so many bytes in all there is room for one more
+/// Whether beside so many packets of so many bytes in all there is room for one more.
 fn is_room(packets: usize, bytes: usize, count: usize) -> bool
     requires { bytes ≤ BATCH_BYTES }
     ensures { result ≡ (nat_lt packets BATCH_PACKETS && nat_le (bytes + count) BATCH_BYTES) }
@@ -130,7 +130,7 @@ fn is_room(packets: usize, bytes: usize, count: usize) -> bool
     packets < BATCH_PACKETS && count <= BATCH_BYTES - bytes
 }
 
-// takes the first n items out
+/// Takes the first n items out.
 fn remove_front<T: Copy>(items: &mut Vec<T>, n: usize)
     requires { n ≤ vec_len items.old }
     ensures items { items.new.items ≡ drop n items.old.items }

@@ -1,4 +1,5 @@
-// A core's share of a run: the packets that it makes, in batches.
+//! A core's share of a run: the packets that it makes, in batches. A `Plan` says what the run sends; a `CoreWork` is one core's part of it, which
+//! takes turns.
 #![tactic(auto)]
 
 mod batch;

@@ -1,18 +1,21 @@
 // The making of a core's packets.
 
-ghost use Rattle.std.specs.Prelude.{◌≡◌, ◌%◌, ◌<◌, ◌≤◌, ◌^◌, IfOk, IsSomeAnd, length, map, slice_get, take};
-ghost use Rattle.std.specs.Option.{option_map};
+ghost use Rattle.std.specs.Prelude.{◌≡◌, ◌<◌, ◌≤◌, ◌^◌, IfOk, IsSomeAnd, length, map, slice_get, take};
+ghost use Rattle.std.specs.Option.{ForSome, option_map};
 ghost use Rattle.trex_core.specs.Plan.{IsSlotOf, packet_bytes};
-ghost use Rattle.trex_core.specs.Registers.{values_at};
-ghost use Rattle.trex_profile.specs.Packets.{variables};
+ghost use Rattle.trex_core.specs.Registers.{values_by};
+ghost use Rattle.trex_profile.specs.Flow.{IsFlow, sequence_of, stamp_with};
+ghost use Rattle.trex_profile.specs.Packets.{values_of};
+ghost use Rattle.trex_stamp.specs.Stamp.{IsStamp, sequence_size};
 
 use crate::plan::Plan;
 use crate::registers::Registers;
 use std::alloc::Global;
 use std::marker::Model;
 use trex_io::Memory;
+use trex_profile::Flow;
 use trex_sched::Slot;
-use trex_stamp::Stamp;
+use trex_stamp::{Stamp, Version};
 use trex_vars::VarValue;
 use trex_vm::run_plain;
 
@@ -30,13 +33,14 @@ pub(crate) struct Maker<'p> {
 impl<'p> Model for Maker<'p> {
     ghost use Rattle.std.specs.Prelude.{◌≡◌, map};
     ghost use Rattle.trex_core.specs.Plan.{PlanOf};
-    ghost use Rattle.trex_profile.specs.Packets.{variables};
+    ghost use Rattle.trex_core.specs.Registers.{values_by};
+    ghost use Rattle.trex_profile.specs.Packets.{values_of};
 
     ghost Value = { PlanOf };
 
     ghost view = { λ m. m.plan.now };
 
-    ghost invariant = { λ m. map (λ r. r.variables) m.registers.items ≡ map variables m.plan.now.profile };
+    ghost invariant = { λ m. map values_by m.registers.items ≡ map values_of m.plan.now.profile };
 }
 
 impl<'p> Maker<'p> {
@@ -67,7 +71,7 @@ impl<'p> Maker<'p> {
     }
 }
 
-// the registers of each stream, by its position
+/// The registers of each stream, by its position.
 fn registers_of<'p>(
     alloc: Global,
     plan: &'p Plan<'p>,
@@ -76,17 +80,18 @@ fn registers_of<'p>(
 ) -> Result<Vec<Registers<'p>>, Memory>
     requires core { core < cores }
     requires cores { cores ≤ 64 }
-    ensures { IfOk result (λ all. map (λ r. r.variables) all.items ≡ map variables plan.now.profile) }
+    ensures { IfOk result (λ all. map values_by all.items ≡ map values_of plan.now.profile) }
 {
     let mut all = Vec::with_capacity(alloc, plan.streams())?;
     for i in 0..plan.streams() {
-        let registers = Registers::start(alloc, &plan.stream(i).vars, core, cores)?;
+        let spec = plan.stream(i);
+        let registers = Registers::start(alloc, &spec.vars, &spec.restart, core, cores)?;
         all.push(registers)?;
     }
     Ok(all)
 }
 
-// makes a packet with the registers of its stream
+/// Makes a packet with the registers of its stream.
 fn make_packet(
     plan: &Plan<'_>,
     registers: &mut [Registers<'_>],
@@ -94,22 +99,22 @@ fn make_packet(
     scratch: &mut [u8],
 ) -> usize
     requires slot { IsSlotOf plan.now.profile slot.now }
-    requires registers { map (λ r. r.variables) registers.old ≡ map variables plan.now.profile }
+    requires registers { map values_by registers.old ≡ map values_of plan.now.profile }
     requires room { length scratch.old ≡ LONGEST_PACKET }
     ensures packet { take result scratch.new ≡ packet_bytes plan.now.profile plan.now.base slot.now }
     ensures short { result ≤ LONGEST_PACKET }
-    ensures registers { map (λ r. r.variables) registers.new ≡ map (λ r. r.variables) registers.old }
+    ensures registers { map values_by registers.new ≡ map values_by registers.old }
 {
     let position = slot.stream as usize;
-    registers[position].go_to(slot.number);
+    registers[position].go_to(slot.number, slot.in_run);
     write_packet(plan, slot, registers[position].values(), scratch)
 }
 
-// makes a packet of the values of its stream's variables
+/// Makes a packet of the values of its stream's variables.
 fn write_packet(plan: &Plan<'_>, slot: &Slot, values: &[VarValue], scratch: &mut [u8]) -> usize
     requires slot { IsSlotOf plan.now.profile slot.now }
     requires values { IsSomeAnd (slice_get plan.now.profile slot.now.stream)
-        (λ stream. values.now ≡ values_at (variables stream) slot.now.number) }
+        (λ stream. values.now ≡ values_of stream slot.now.number slot.now.in_run) }
     requires room { length scratch.old ≡ LONGEST_PACKET }
     ensures packet { take result scratch.new ≡ packet_bytes plan.now.profile plan.now.base slot.now }
     ensures short { result ≤ LONGEST_PACKET }
@@ -119,14 +124,28 @@ fn write_packet(plan: &Plan<'_>, slot: &Slot, values: &[VarValue], scratch: &mut
     run_plain(&spec.program, &spec.template, values, stamp, scratch)
 }
 
-// the latency header of a packet, where its stream has a flow
-fn stamp_of(flow: Option<u16>, number: u64, time: u64) -> Option<Stamp>
-    ensures { result ≡ option_map (λ flow. record { flow = flow; sequence = number % 2 ^ 32; time = time }) flow }
+/// The latency header of a packet, if its stream has a flow.
+fn stamp_of(flow: Option<Flow>, number: u64, time: u64) -> Option<Stamp>
+    requires { ForSome flow IsFlow }
+    ensures value { result ≡ option_map (λ flow. stamp_with flow number time) flow }
+    ensures fits { ForSome result IsStamp }
 {
     let flow = flow?;
     Some(Stamp {
-        flow,
-        sequence: (number % (1 << 32)) as u32,
+        version: flow.version,
+        flow: flow.number,
+        sequence: sequence_of(flow.version, number),
         time,
     })
+}
+
+/// The sequence of a packet in the headers of a version. Version 1 has room for 32 bits of the packet's number.
+fn sequence_of(version: Version, number: u64) -> u64
+    ensures value { result ≡ sequence_of version number }
+    ensures fits { result < 256 ^ sequence_size version }
+{
+    match version {
+        Version::One => number % (1 << 32),
+        Version::Two => number,
+    }
 }

@@ -1,3 +1,5 @@
+// What a batch keeps of a packet beside its bytes.
+
 use trex_merge::Key;
 
 /// A packet of a batch, without its bytes.

@@ -1,6 +1,8 @@
 // A core's packets, and the laws called once.
 
 ghost use Rattle.std.specs.Prelude.{◌≤◌, All, length, map};
+ghost use Rattle.std.specs.Option.{ForSome};
+ghost use Rattle.trex_profile.specs.Flow.{IsFlow};
 ghost use Rattle.trex_profile.specs.Instruction.{instruction, IsRawInstr};
 ghost use Rattle.trex_profile.specs.Stream.{IsRawStream};
 
@@ -11,19 +13,22 @@ use std::test::Fail;
 use trex_claims::Piece;
 use trex_merge::Feed;
 use trex_profile::{
-    AdmitFault, Name, Profile, RateKind, RawInstr, RawPlace, RawProfile, RawRate, RawStream, admit,
+    AdmitFault, Flow, Name, Profile, RateKind, RawInstr, RawPlace, RawProfile, RawRate, RawStream,
+    admit,
 };
 use trex_sched::Mode;
+use trex_stamp::Version;
 use trex_vars::Op;
 
-// A burst of packets, 1,000 a second.
+/// A burst of packets, 1,000 a second.
 fn burst(
     alloc: Global,
     total: u32,
     template: Vec<u8>,
-    flow: Option<u16>,
+    flow: Option<Flow>,
     instrs: Vec<RawInstr>,
 ) -> Result<Profile, AdmitFault>
+    requires flow { ForSome flow IsFlow }
     requires few { length instrs.items ≤ 256 }
     requires formed { All IsRawInstr (map instruction instrs.items) }
 {
@@ -47,7 +52,7 @@ fn burst(
     admit_one(alloc, stream)
 }
 
-// The profile of one stream.
+/// The profile of one stream.
 fn admit_one(alloc: Global, stream: RawStream) -> Result<Profile, AdmitFault>
     requires { IsRawStream stream }
 {
@@ -56,7 +61,7 @@ fn admit_one(alloc: Global, stream: RawStream) -> Result<Profile, AdmitFault>
     admit(alloc, RawProfile { streams })
 }
 
-// The packets that wait have these numbers, and these bytes at their ends, and no others are to come.
+/// The packets that wait have these numbers, and these bytes at their ends, and no others are to come.
 fn sends(rt: &impl Abort, work: &mut CoreWork<'_>, packets: &[(u64, &[u8])]) {
     for (number, end) in packets {
         match work.head() {
@@ -87,6 +92,7 @@ fn each_core_sends_its_part_with_the_values_of_its_numbers(rt: HostRuntime) -> R
         min: 250,
         max: 255,
         step: 4,
+        restart: false,
     };
     let write = RawInstr::Write {
         name: Name::of(alloc, "v")?,
@@ -120,21 +126,45 @@ fn each_core_sends_its_part_with_the_values_of_its_numbers(rt: HostRuntime) -> R
     Ok(())
 }
 
+/// The second of two packets of a flow ends in a header. The headers' layouts stand in docs/FORMATS.md.
+fn ends_in(
+    rt: &impl Abort,
+    alloc: Global,
+    length: usize,
+    flow: Flow,
+    header: &[u8],
+) -> Result<(), Fail>
+    requires { IsFlow flow }
+{
+    let template = vec![in alloc; 0; length]?;
+    let profile = burst(alloc, 2, template, Some(flow), Vec::new(alloc))?;
+    let plan = Plan::new(&profile, 1_000_000_000, 1);
+    let mut work = CoreWork::new(alloc, &plan, 1, 2)?;
+    work.refill();
+    sends(rt, &mut work, &[(1, header)]);
+    Ok(())
+}
+
 #[test]
 fn a_latency_header_has_the_packets_number_and_its_absolute_time(
     rt: HostRuntime,
 ) -> Result<(), Fail> {
-    let alloc = rt.alloc();
-    let template = vec![in alloc; 0; 30]?;
-    let profile = burst(alloc, 2, template, Some(7), Vec::new(alloc))?;
-    let plan = Plan::new(&profile, 1_000_000_000, 1);
-    let mut work = CoreWork::new(alloc, &plan, 1, 2)?;
-    work.refill();
+    let one = Flow {
+        version: Version::One,
+        number: 7,
+    };
     let header = [
         0xab, 1, 0, 7, 0, 0, 0, 1, 0, 0, 0, 0, 0x3b, 0xaa, 0x0c, 0x40,
     ];
-    sends(&rt, &mut work, &[(1, &header)]);
-    Ok(())
+    ends_in(&rt, rt.alloc(), 30, one, &header)?;
+    let two = Flow {
+        version: Version::Two,
+        number: 70_000,
+    };
+    let header = [
+        0xab, 2, 0, 0, 0, 1, 0x11, 0x70, 0, 0, 0, 0, 0, 0, 0, 1, 0, 0, 0, 0, 0x3b, 0xaa, 0x0c, 0x40,
+    ];
+    ends_in(&rt, rt.alloc(), 38, two, &header)
 }
 
 #[test]

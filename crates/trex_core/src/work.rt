@@ -102,7 +102,7 @@ impl<'p> CoreWork<'p> {
     }
 }
 
-// puts packets to a batch, until one doesn't fit or none is left
+/// Puts packets to a batch, until one doesn't fit or none is left.
 fn fill(maker: &mut Maker<'_>, walks: &mut Walks<'_>, batch: &mut Batch, scratch: &mut [u8])
     requires slots { AllByRecursion (IsSlotOf maker.old.profile) walks.old }
     requires within { IsWithin batch.old }

@@ -4,7 +4,7 @@ use mathlib.Core.Logic.{dite}
 use native.Mathlib.Decide.{ℕ_discrete}
 use Rattle.trex_claims.specs.declared.view.View.{View}
 use Rattle.trex_claims.specs.Views.{IsFull}
-use Rattle.trex_claims.specs.Moves.{stand_at}
+use Rattle.trex_claims.specs.Moves.{state_at}
 use Rattle.trex_crew.specs.Orders.{AreInOrder}
 use Rattle.trex_crew.specs.Rounds.{IsLent, AreLent}
 
@@ -33,17 +33,17 @@ next_of core_of all left work others lent order is popped =
     }
 
 module _ {T : Type 0} (turns : T → ℕ) (stem : T → List (List ℕ)) (sound : T → Type 0) where
-  pub still_lent : (v w : View) (core : ℕ) (works : List T) → ((other : ℕ) → core ≤ other → stand_at w other ≡ stand_at v other) → AreLent turns stem sound v core works → AreLent turns stem sound w core works
+  pub still_lent : (v w : View) (core : ℕ) (works : List T) → ((other : ℕ) → core ≤ other → state_at w other ≡ state_at v other) → AreLent turns stem sound v core works → AreLent turns stem sound w core works
   still_lent v w core [] same lent = tt
   still_lent v w core (x ∷ xs) same (here, rest) =
       (subst (λ t. IsLent turns stem sound t x) (sym (same core (omega arith))) here, still_lent v w (core + 1) xs (λ other h. same other (omega arith)) rest)
 
   -- all slots are full
-  pub lent_full : (v : View) (core : ℕ) (works : List T) (k : ℕ) → core ≤ k → k < core + length works → AreLent turns stem sound v core works → IsFull (stand_at v k).what
+  pub lent_full : (v : View) (core : ℕ) (works : List T) (k : ℕ) → core ≤ k → k < core + length works → AreLent turns stem sound v core works → IsFull (state_at v k).slot
   lent_full v core [] k low high lent = absurd (omega arith)
   lent_full v core (x ∷ xs) k low high (here, rest) =
       dite (ℕ_discrete core k)
-      (λ e. subst (λ n. IsFull (stand_at v n).what) e here.full)
+      (λ e. subst (λ n. IsFull (state_at v n).slot) e here.full)
       (λ n. lent_full v (core + 1) xs k (omega arith) (omega arith) rest)
 
 -- one work more in order

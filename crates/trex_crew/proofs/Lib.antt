@@ -1,7 +1,7 @@
 mod Works
 pub mod EntryLemmas
 pub mod CoreLemmas
-mod Drawing
+mod SeatDraws
 mod Lent
 mod Fetched
 mod Turned

@@ -6,13 +6,13 @@ use Rattle.std.proofs.lemmas.Simd.{map-map}
 use Rattle.std.specs.List.{AllByRecursion}
 use mathlib.Core.Logic.{dite}
 use native.Mathlib.Decide.{ℕ_discrete, dec_lt}
-use Rattle.trex_claims.specs.declared.view.Stand.{Stand}
+use Rattle.trex_claims.specs.declared.view.CoreState.{CoreState}
 use Rattle.trex_claims.specs.declared.view.View.{View}
 use Rattle.trex_claims.specs.Views.{times}
 use Rattle.trex_claims.specs.Board.{IsPiece, below}
-use Rattle.trex_claims.specs.Moves.{vacant, turned_by, stand_at, rested, begun}
+use Rattle.trex_claims.specs.Moves.{vacant, turned_by, state_at, round_closed, round_opened}
 use Rattle.trex_claims.specs.Boards.{Me}
-use Rattle.trex_claims.proofs.CallerLemmas.{stand_rested}
+use Rattle.trex_claims.proofs.CallerLemmas.{state_closed}
 use Rattle.trex_claims.proofs.TotalLemmas.{sure}
 use Rattle.trex_crew.specs.Orders.{AreInOrder}
 use Rattle.trex_crew.specs.Told.{Entered}
@@ -34,7 +34,7 @@ entered_works {T = T} entries core_of cores works round old new once order enter
 
 module _ {T : Type 0} (core_of turns : T → ℕ) (stem : T → List (List ℕ)) (settled sound : T → Type 0) (turned : T → T)
     (law : (old new : T) → sound old → core_of new ≡ core_of old → turns new ≡ turns old + 1 → stem new ≡ stem old → settled new → new ≡ turned old) where
-  kept_one : (core : ℕ) (t u : Stand) (old new : T) → core_of old ≡ core → IsLent turns stem sound t old → u ≡ turned_by 1 t → IsPiece core_of turns stem settled core u 0 new
+  kept_one : (core : ℕ) (t u : CoreState) (old new : T) → core_of old ≡ core → IsLent turns stem sound t old → u ≡ turned_by 1 t → IsPiece core_of turns stem settled core u 0 new
       → TookTurn core_of turns stem settled old new
   kept_one core t u old new is lent after piece =
       let p = subst (λ x. IsPiece core_of turns stem settled core x 0 new) after piece in
@@ -44,12 +44,12 @@ module _ {T : Type 0} (core_of turns : T → ℕ) (stem : T → List (List ℕ))
 
   -- each work took one turn
   pub all_kept : (v u : View) (core : ℕ) (old new : List T) → AreInOrder core_of core old → AreLent turns stem sound v core old → ArePieces core_of turns stem settled u core new
-      → length new ≡ length old → ((k : ℕ) → k < core + length old → stand_at u k ≡ turned_by 1 (stand_at v k)) → TookTurns core_of turns stem settled old new
+      → length new ≡ length old → ((k : ℕ) → k < core + length old → state_at u k ≡ turned_by 1 (state_at v k)) → TookTurns core_of turns stem settled old new
   all_kept v u core [] [] order lent pieces long after = tt
   all_kept v u core [] (y ∷ ys) order lent pieces long after = absurd (omega arith)
   all_kept v u core (x ∷ xs) [] order lent pieces long after = absurd (omega arith)
   all_kept v u core (x ∷ xs) (y ∷ ys) (is, order) (lent, all_lent) (piece, pieces) long after = (
-    kept_one core (stand_at v core) (stand_at u core) x y is lent (after core (omega arith)) piece,
+    kept_one core (state_at v core) (state_at u core) x y is lent (after core (omega arith)) piece,
     all_kept v u (core + 1) xs ys order all_lent pieces (omega arith) (λ k h. after k (omega arith)),
   )
 
@@ -64,35 +64,35 @@ module _ {T : Type 0} (core_of turns : T → ℕ) (stem : T → List (List ℕ))
       (λ i. one i ∷ rest i)
 
   few_turns : (v : View) (core : ℕ) (works : List T) (k : ℕ) → core ≤ k → k < core + length works → AreLent turns stem sound v core works
-      → AllByRecursion (λ work. turns work < 2 ^ 63) works → (stand_at v k).turns < 2 ^ 63
+      → AllByRecursion (λ work. turns work < 2 ^ 63) works → (state_at v k).turns < 2 ^ 63
   few_turns v core [] k low high lent few = absurd (omega arith)
   few_turns v core (x ∷ xs) k low high (here, rest) (one, all) =
       dite (ℕ_discrete core k)
-      (λ e. let t = here.turns_are in let s : (stand_at v core).turns ≡ (stand_at v k).turns = ap (λ n. (stand_at v n).turns) e in omega arith)
+      (λ e. let t = here.turns_are in let s : (state_at v core).turns ≡ (state_at v k).turns = ap (λ n. (state_at v n).turns) e in omega arith)
       (λ n. few_turns v (core + 1) xs k (omega arith) (omega arith) rest all)
 
   -- each core may take its turn
-  pub may_turn : (v : View) (works : List T) → length v.round.stands ≡ length works → AreLent turns stem sound v 0 works → AllByRecursion (λ work. turns work < 2 ^ 63) works
-      → (k : ℕ) → (stand_at v k).turns < 2 ^ 63
+  pub may_turn : (v : View) (works : List T) → length v.round.cores ≡ length works → AreLent turns stem sound v 0 works → AllByRecursion (λ work. turns work < 2 ^ 63) works
+      → (k : ℕ) → (state_at v k).turns < 2 ^ 63
   may_turn v works long lent few k =
       dite (dec_lt k (length works))
       (λ h. few_turns v 0 works k (omega arith) (omega arith) lent few)
       (λ n.
-      let past : length v.round.stands ≤ k = omega arith in
-      let z : (stand_at v k).turns ≡ 0 = ap (λ t. t.turns) (get_or-eq_default v.round.stands vacant past) in
+      let past : length v.round.cores ≤ k = omega arith in
+      let z : (state_at v k).turns ≡ 0 = ap (λ t. t.turns) (get_or-eq_default v.round.cores vacant past) in
       omega arith)
 
 -- a round has begun
-pub begun_ready : {T : Type 0} (v : View) (base : ℕ) (slots : List (ℕ × Option T)) (after : Me (Option T) View) → after ≡ (begun v base, slots) → slots ≡ [] → ((k : ℕ) → (stand_at v k).turns < 2 ^ 63)
+pub opened_ready : {T : Type 0} (v : View) (base : ℕ) (slots : List (ℕ × Option T)) (after : Me (Option T) View) → after ≡ (round_opened v base, slots) → slots ≡ [] → ((k : ℕ) → (state_at v k).turns < 2 ^ 63)
     → MayDraw base after
-begun_ready {T = T} v base slots after is none turns =
-    let seat : Me (Option T) View = (begun v base, slots) in
-    let ready : MayDraw base seat = record { open_round = refl; base_is = refl; free = (refl, none); untold = refl; turns = turns } in
+opened_ready {T = T} v base slots after is none turns =
+    let seat : Me (Option T) View = (round_opened v base, slots) in
+    let ready : MayDraw base seat = record { open_round = refl; base_is = refl; free = (refl, none); no_none_yet = refl; turns = turns } in
     subst (λ m. MayDraw base m) (sym is) ready
 
 -- what is known of a core after the round, where it was put back once
-pub stand_turned : (before after : View) (k count : ℕ) → after.round.running ≡ true → after.round.stands ≡ before.round.stands → k < length before.round.stands → length before.round.stands ≡ count
-    → times k after.done ≡ below k count → stand_at (rested after) k ≡ turned_by 1 (stand_at before k)
-stand_turned before after k count running same inside long once =
-    let there : k < length after.round.stands = let n = ap length same in omega arith in
-    stand_rested after k running there ∙ ap (λ n. turned_by n (stand_at after k)) (once ∙ sure k count (omega arith)) ∙ ap (λ l. turned_by 1 (get_or l k vacant)) same
+pub state_turned : (before after : View) (k count : ℕ) → after.round.running ≡ true → after.round.cores ≡ before.round.cores → k < length before.round.cores → length before.round.cores ≡ count
+    → times k after.done ≡ below k count → state_at (round_closed after) k ≡ turned_by 1 (state_at before k)
+state_turned before after k count running same inside long once =
+    let there : k < length after.round.cores = let n = ap length same in omega arith in
+    state_closed after k running there ∙ ap (λ n. turned_by n (state_at after k)) (once ∙ sure k count (omega arith)) ∙ ap (λ l. turned_by 1 (get_or l k vacant)) same

@@ -8,7 +8,7 @@ WasTold None new told = ⊥
 WasTold (Some old) None told = ⊥
 WasTold (Some old) (Some new) told = new ≡ old ++ told
 
--- The same of some gates: what was added to their lists, gate by gate.
+-- Some gates tell their entries before and after, and in between these were added to their lists, gate by gate.
 abbrev pub WereTold : {G : Type 0} → (G → Option (List (ℕ × ℕ))) → List G → List G → List (ℕ × ℕ) → Type 0
 WereTold entries [] [] told = told ≡ []
 WereTold entries [] (new ∷ all_new) told = ⊥

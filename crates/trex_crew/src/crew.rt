@@ -1,4 +1,4 @@
-// A crew: the works of all cores, and its rounds.
+// The works of all cores, and their rounds: `round` gives each work one turn.
 
 ghost use Rattle.std.specs.Prelude.{◌≡◌, ◌+◌, ◌<◌, ◌≤◌, ◌^◌, true, length, map, vec_len, IfOk};
 ghost use Rattle.std.specs.List.{AllByRecursion};
@@ -21,7 +21,7 @@ use trex_io::Memory;
 #[derive(Drop)]
 pub struct Crew<T: Piece> {
     works: Vec<T>,
-    // on which the works are claimed in a round; all slots are empty between two rounds
+    /// The board on which the works are claimed in a round. All its slots are empty between two rounds.
     board: Board<T>,
     seat: Seat<T>,
     rounds: u64,
@@ -52,8 +52,9 @@ impl<T: Piece> Crew<T> {
         })
     }
 
-    /// Every work takes one turn, which keeps its core and its stem, by as many workers in threads as there are gates, but at most one a core. Before the turn of core c
-    /// in round r one of the gates is entered with (r, c). Where there is no gate, the caller's thread does all.
+    /// Every work takes one turn, which keeps its core and its stem, by as many workers in threads as there are gates, but at most one a
+    /// core. Before the turn of core c in round r one of the gates is entered with (r, c). Where there is no gate, the caller's thread
+    /// does all.
     pub fn round<R: Threads + Sync, G: Gate>(&mut self, rt: &R, gates: &mut [G])
         requires rounds { self.old.rounds < 2 ^ 40 }
         requires turns { AllByRecursion (λ work. T.turns_of work < 2 ^ 63) (works_of self.old) }
@@ -69,8 +70,8 @@ impl<T: Piece> Crew<T> {
         }
     }
 
-    // Every work takes one turn. Where the caller changed which works there are, they aren't in the order of the board, and one worker
-    // does all.
+    /// Every work takes one turn, at one gate or more. Where the caller changed which works there are, so that they aren't in order of
+    /// core, one worker does all without the board.
     fn turn_all<R: Threads + Sync, G: Gate>(&mut self, rt: &R, gates: &mut [G])
         requires gates { 0 < length gates.old }
         requires rounds { self.old.rounds < 2 ^ 40 }
@@ -112,7 +113,7 @@ impl<T: Piece> Crew<T> {
     }
 }
 
-// Each work has the core that is its place, and there is one.
+/// Whether each work has the core that is its place, and there are 1 to 64.
 fn is_in_order<T: Piece>(works: &[T]) -> bool
     ensures order { result ≡ true → AreInOrder T.core_of 0 works.now }
     ensures some { result ≡ true → 0 < length works.now }

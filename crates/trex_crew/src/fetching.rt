@@ -1,10 +1,10 @@
-// The works of a crew are fetched from its board.
+// The works of a crew are fetched from its board at the end of a round.
 
 ghost use Rattle.std.specs.Prelude.{◌≡◌, ◌≢◌, ℕ, ◌+◌, ◌++◌, ◌∷◌, ◌<◌, ◌≤◌, [], true, length, vec_len};
 ghost use Rattle.std.specs.Vec.{vec_capacity};
 ghost use Rattle.trex_claims.specs.Board.{IsPiece, below};
 ghost use Rattle.trex_claims.specs.Boards.{board_id, cores_of};
-ghost use Rattle.trex_claims.specs.Moves.{HoldsNone, rested, stand_at};
+ghost use Rattle.trex_claims.specs.Moves.{HoldsNone, round_closed, state_at};
 ghost use Rattle.trex_claims.specs.Views.{IsFirst, IsEmpty, IsFull, times};
 ghost use Rattle.trex_crew.specs.Rounds.{IsCalm, AreEmpty, ArePieces};
 
@@ -14,20 +14,20 @@ use trex_claims::{Board, Piece, Seat};
 fn fetch_one<T: Piece>(board: &Board<T>, seat: &mut Seat<T>, works: &mut Vec<T>, core: u32)
     requires board { seat.old.table_id ≡ board_id board.now }
     requires first { IsFirst seat.old.me.0.role }
-    requires alone { seat.old.me.0.outs ≡ 0 }
+    requires alone { seat.old.me.0.seats_out ≡ 0 }
     requires free { HoldsNone seat.old.me }
     requires core { core < cores_of board.now }
-    requires full { IsFull (stand_at seat.old.me.0 core).what }
+    requires full { IsFull (state_at seat.old.me.0 core).slot }
     requires room { vec_len works.old < vec_capacity works.old }
     ensures board { seat.new.table_id ≡ seat.old.table_id }
     ensures calm { IsCalm (cores_of board.now) seat.old.me.0.round.rounds seat.new.me }
-    ensures alone { seat.new.me.0.outs ≡ 0 }
-    ensures empty { IsEmpty (stand_at seat.new.me.0 core).what }
-    ensures others { (other : ℕ) → other ≢ core → stand_at seat.new.me.0 other ≡ stand_at (rested seat.old.me.0) other }
+    ensures alone { seat.new.me.0.seats_out ≡ 0 }
+    ensures empty { IsEmpty (state_at seat.new.me.0 core).slot }
+    ensures others { (other : ℕ) → other ≢ core → state_at seat.new.me.0 other ≡ state_at (round_closed seat.old.me.0) other }
     ensures works { (work : T) × (works.new.items ≡ works.old.items ++ work ∷ [])
-        × IsPiece T.core_of T.turns_of T.stem_of T.is_settled core (stand_at (rested seat.old.me.0) core) 0 work }
+        × IsPiece T.core_of T.turns_of T.stem_of T.is_settled core (state_at (round_closed seat.old.me.0) core) 0 work }
     ensures room { vec_capacity works.new ≡ vec_capacity works.old }
-    ensures each_once { seat.old.me.0.round.running ≡ true → seat.old.me.0.told ≡ true
+    ensures each_once { seat.old.me.0.round.running ≡ true → seat.old.me.0.saw_none ≡ true
         → (other : ℕ) → times other seat.old.me.0.done ≡ below other (cores_of board.now) }
 {
     works.push_reserved(board.fetch(seat, core));
@@ -42,19 +42,19 @@ pub(crate) fn fetch_all<T: Piece>(
 )
     requires board { seat.old.table_id ≡ board_id board.now }
     requires first { IsFirst seat.old.me.0.role }
-    requires alone { seat.old.me.0.outs ≡ 0 }
+    requires alone { seat.old.me.0.seats_out ≡ 0 }
     requires free { HoldsNone seat.old.me }
     requires open { seat.old.me.0.round.running ≡ true }
-    requires told { seat.old.me.0.told ≡ true }
+    requires saw_none { seat.old.me.0.saw_none ≡ true }
     requires count { count ≡ cores_of board.now }
     requires some { 0 < count }
-    requires full { (core : ℕ) → core < count → IsFull (stand_at seat.old.me.0 core).what }
+    requires full { (core : ℕ) → core < count → IsFull (state_at seat.old.me.0 core).slot }
     requires none { works.old.items ≡ [] }
     requires room { count ≤ vec_capacity works.old }
     ensures board { seat.new.table_id ≡ seat.old.table_id }
     ensures calm { IsCalm (cores_of board.now) seat.old.me.0.round.rounds seat.new.me }
     ensures empty { AreEmpty (cores_of board.now) seat.new.me.0 }
-    ensures works { ArePieces T.core_of T.turns_of T.stem_of T.is_settled (rested seat.old.me.0) 0 works.new.items }
+    ensures works { ArePieces T.core_of T.turns_of T.stem_of T.is_settled (round_closed seat.old.me.0) 0 works.new.items }
     ensures length { length works.new.items ≡ count }
     ensures each_once { (other : ℕ) → times other seat.old.me.0.done ≡ below other count }
 {

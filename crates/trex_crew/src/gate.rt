@@ -1,4 +1,4 @@
-// Gates, which a worker enters before each turn.
+// What a worker enters before each turn: the trait `Gate`, and the gate that is always open.
 
 ghost use Rattle.std.specs.Prelude.{ℕ, List, Option};
 ghost use Rattle.trex_crew.specs.Gates.{HasEntered};

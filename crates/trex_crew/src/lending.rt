@@ -1,15 +1,15 @@
-// The works of a crew are lent to its board, and fetched from it.
+// The works of a crew are lent to its board at the beginning of a round.
 
 ghost use Rattle.std.specs.Prelude.{◌≡◌, ◌≢◌, ℕ, ◌+◌, ◌<◌, [], length};
 ghost use Rattle.std.specs.Vec.{vec_capacity};
 ghost use Rattle.trex_claims.specs.Boards.{board_id, cores_of};
-ghost use Rattle.trex_claims.specs.Moves.{stand_at};
+ghost use Rattle.trex_claims.specs.Moves.{state_at};
 ghost use Rattle.trex_crew.specs.Orders.{AreInOrder};
 ghost use Rattle.trex_crew.specs.Rounds.{IsCalm, AreEmpty, IsLent, AreLent};
 
 use trex_claims::{Board, Piece, Seat};
 
-/// Lends a work.
+/// Lends the board a work.
 fn lend_one<T: Piece>(board: &Board<T>, seat: &mut Seat<T>, work: T)
     requires board { seat.old.table_id ≡ board_id board.now }
     requires calm { IsCalm (cores_of board.now) seat.old.me.0.round.rounds seat.old.me }
@@ -17,8 +17,8 @@ fn lend_one<T: Piece>(board: &Board<T>, seat: &mut Seat<T>, work: T)
     requires empty { AreEmpty (T.core_of work + 1) seat.old.me.0 }
     ensures board { seat.new.table_id ≡ seat.old.table_id }
     ensures calm { IsCalm (cores_of board.now) seat.old.me.0.round.rounds seat.new.me }
-    ensures lent { IsLent T.turns_of T.stem_of T.is_sound (stand_at seat.new.me.0 (T.core_of work)) work }
-    ensures others { (other : ℕ) → other ≢ T.core_of work → stand_at seat.new.me.0 other ≡ stand_at seat.old.me.0 other }
+    ensures lent { IsLent T.turns_of T.stem_of T.is_sound (state_at seat.new.me.0 (T.core_of work)) work }
+    ensures others { (other : ℕ) → other ≢ T.core_of work → state_at seat.new.me.0 other ≡ state_at seat.old.me.0 other }
 {
     board.lend(seat, work);
 }

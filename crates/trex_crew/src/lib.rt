@@ -1,4 +1,4 @@
-// Workers that give each core's work its turn, and the gates that they enter before it.
+//! Workers that give each core's work its turn in rounds, and the gates that they enter before it.
 #![tactic(auto)]
 
 mod crew;

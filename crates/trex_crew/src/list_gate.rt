@@ -13,7 +13,7 @@ use trex_io::Memory;
 pub struct ListGate {
     entries: Vec<(u64, u32)>,
     room: usize,
-    // whether there were more entries than there is room for
+    /// Whether there were more entries than there is room for.
     over: bool,
 }
 

@@ -1,4 +1,4 @@
-// A round on the board.
+// A round on the board: the works are lent, claimed by workers, and fetched.
 
 ghost use Rattle.std.specs.Prelude.{◌≡◌, ◌+◌, ◌<◌, ◌≤◌, ◌^◌, length, map};
 ghost use Rattle.std.specs.List.{AllByRecursion};

@@ -1,3 +1,5 @@
+// Rounds of three works at any number of gates, and a round of two works that wait for each other.
+
 ghost use Rattle.std.specs.Prelude.{◌≡◌, ◌≤◌, [], ◌∷◌, IfOk};
 ghost use Rattle.trex_crew.specs.Crews.{works_of};
 
@@ -9,54 +11,19 @@ use std::sync::atomic::AtomicU64;
 use std::sync::atomic::Ordering::SeqCst;
 use std::test::Fail;
 use std::thread::{Threads, yield_now};
-use trex_claims::Piece;
+use trex_claims::{CountingPiece, Piece};
 use trex_io::Memory;
 
-/// A work that counts its turns.
-#[derive(Clone, Copy, Debug, PartialEq, Eq, Drop)]
-struct Counter {
-    core: u32,
-    turns: u64,
-}
-
-impl Piece for Counter {
-    ghost use Rattle.std.specs.Prelude.{◌+◌, []};
-
-    ghost core_of = { λ c. c.core };
-
-    ghost turns_of = { λ c. c.turns };
-
-    ghost stem_of = { λ _. [] };
-
-    ghost is_settled = { λ _. Unit {0} };
-
-    ghost turned = { λ c. record { core = c.core; turns = c.turns + 1 } };
-
-    ghost is_turned = { λ old new sound core turns stem settled i. record { core = core i; turns = turns i } };
-
-    fn core(&self) -> u32 {
-        self.core
-    }
-
-    fn turns(&self) -> u64 {
-        self.turns
-    }
-
-    fn turn(&mut self) {
-        self.turns += 1;
-    }
-}
-
 /// A crew of three works that took no turn.
-fn three(alloc: Global) -> Result<Crew<Counter>, Memory>
+fn three(alloc: Global) -> Result<Crew<CountingPiece>, Memory>
     ensures rounds { IfOk result (λ crew. crew.rounds ≡ 0) }
     ensures works { IfOk result (λ crew. works_of crew
         ≡ record { core = 0; turns = 0 } ∷ record { core = 1; turns = 0 } ∷ record { core = 2; turns = 0 } ∷ []) }
 {
     let works = [
-        Counter { core: 0, turns: 0 },
-        Counter { core: 1, turns: 0 },
-        Counter { core: 2, turns: 0 },
+        CountingPiece { core: 0, turns: 0 },
+        CountingPiece { core: 1, turns: 0 },
+        CountingPiece { core: 2, turns: 0 },
     ];
     Crew::new(alloc, works.to_vec(alloc)?)
 }
@@ -98,7 +65,7 @@ fn turned_with<R: Threads + Sync>(
     rt: &R,
     alloc: Global,
     count: usize,
-) -> Result<Crew<Counter>, Memory>
+) -> Result<Crew<CountingPiece>, Memory>
     requires { count ≤ 8 }
 {
     let mut crew = three(alloc)?;
@@ -118,13 +85,13 @@ fn any_number_of_gates_gives_each_work_one_turn(rt: HostRuntime) -> Result<(), F
     Ok(())
 }
 
-// How often a piece looks for the other.
+/// How often a piece looks for the other.
 const LOOKS: u32 = 100_000_000;
 
 /// How many pieces have begun a turn, and how many of these found that the other had.
 #[derive(Drop)]
 struct Meeting {
-    begun: AtomicU64,
+    round_opened: AtomicU64,
     met: AtomicU64,
 }
 
@@ -146,9 +113,9 @@ impl Model for Guest {
 
 /// A turn begins, and waits until two have.
 fn meet(meeting: &Meeting) {
-    meeting.begun.fetch_add(1, SeqCst);
+    meeting.round_opened.fetch_add(1, SeqCst);
     for _ in 0..LOOKS {
-        if meeting.begun.load(SeqCst) >= 2 {
+        if meeting.round_opened.load(SeqCst) >= 2 {
             meeting.met.fetch_add(1, SeqCst);
             return;
         }
@@ -211,7 +178,7 @@ fn turns_are_taken_at_the_same_time(rt: HostRuntime) -> Result<(), Fail> {
     let meeting = Arc::new(
         rt.alloc(),
         Meeting {
-            begun: AtomicU64::new(0),
+            round_opened: AtomicU64::new(0),
             met: AtomicU64::new(0),
         },
     )?;

@@ -1,4 +1,4 @@
-// One turn of each work, by one worker.
+// Turns of works, each behind its gate, by one worker.
 
 ghost use Rattle.std.specs.Prelude.{◌≡◌, ◌+◌, ◌<◌, ◌^◌, [], ◌∷◌, map};
 ghost use Rattle.std.specs.List.{AllByRecursion};
@@ -9,7 +9,7 @@ ghost use Rattle.trex_crew.specs.Turns.{TookTurn, TookTurns};
 use crate::gate::Gate;
 use trex_claims::Piece;
 
-/// A work takes its turn, for which the gate was entered.
+/// A work takes its turn, for which the gate was entered. The gate and the round are there for the proof of that alone.
 pub(crate) fn take_turn<T: Piece, G: Gate>(work: &mut T, _gate: &G, _round: u64)
     requires entered { LastIs (G.entries _gate.now) _round (T.core_of work.old) }
     requires turns { T.turns_of work.old < 2 ^ 63 }
@@ -22,7 +22,7 @@ pub(crate) fn take_turn<T: Piece, G: Gate>(work: &mut T, _gate: &G, _round: u64)
     work.turn();
 }
 
-/// The gate is entered, and then the work takes its turn.
+/// Enters the gate, and then gives the work its turn.
 fn turn_one<T: Piece, G: Gate>(work: &mut T, gate: &mut G, round: u64)
     requires { T.turns_of work.old < 2 ^ 63 }
     ensures work { work.new ≡ T.turned work.old }
@@ -33,7 +33,7 @@ fn turn_one<T: Piece, G: Gate>(work: &mut T, gate: &mut G, round: u64)
     take_turn(work, gate, round);
 }
 
-/// Each work takes its turn, by one worker.
+/// Gives each work its turn, in order, at one gate.
 pub(crate) fn turn_by_one<T: Piece, G: Gate>(works: &mut [T], gate: &mut G, round: u64)
     requires { AllByRecursion (λ work. T.turns_of work < 2 ^ 63) works.old }
     ensures works { works.new ≡ map T.turned works.old }

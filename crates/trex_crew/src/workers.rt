@@ -16,13 +16,13 @@ use trex_claims::{Board, Piece, Seat};
 pub(crate) struct Site<'a, R: Threads + Sync, T: Piece> {
     pub(crate) rt: &'a R,
     pub(crate) board: &'a Board<T>,
-    // the round's base on the board
+    /// The round's base on the board.
     pub(crate) base: u64,
-    // the round's number for the gates
+    /// The round's number for the gates.
     pub(crate) round: u64,
 }
 
-/// One worker, at the first of the gates.
+/// One worker, at the only gate of a part.
 fn work_first<R: Threads + Sync, T: Piece, G: Gate>(
     site: &Site<'_, R, T>,
     seat: &mut Seat<T>,
@@ -49,7 +49,7 @@ pub(crate) fn work_by_gates<R: Threads + Sync, T: Piece, G: Gate>(
     requires first { IsFirst seat.old.me.0.role }
     requires ready { MayDraw site.now.base seat.old.me }
     requires some { 0 < length gates.old }
-    requires spare { length gates.old ≤ seat.old.me.0.spare + 1 }
+    requires seats_left { length gates.old ≤ seat.old.me.0.seats_left + 1 }
     ensures board { seat.new.table_id ≡ seat.old.table_id }
     ensures drawn { HasDrawn seat.old.me seat.new.me }
     ensures gates { Worked G.entries site.now.round gates.old gates.new seat.old.me.0.done seat.new.me.0.done }
@@ -58,14 +58,14 @@ pub(crate) fn work_by_gates<R: Threads + Sync, T: Piece, G: Gate>(
         work_first(site, seat, gates);
     } else {
         let mut other = site.board.split(seat).unwrap();
-        work_by_parts(site, seat, &mut other, gates);
+        work_with_other(site, seat, &mut other, gates);
         site.board.join(seat, other);
     }
 }
 
-/// The other seat works at the first of the gates.
+/// The other seat works at the first of the gates, and this one, with further seats, at the rest.
 #[cycle(workers)]
-fn work_by_parts<R: Threads + Sync, T: Piece, G: Gate>(
+fn work_with_other<R: Threads + Sync, T: Piece, G: Gate>(
     site: &Site<'_, R, T>,
     seat: &mut Seat<T>,
     other: &mut Seat<T>,
@@ -77,7 +77,7 @@ fn work_by_parts<R: Threads + Sync, T: Piece, G: Gate>(
     requires ready { MayDraw site.now.base seat.old.me }
     requires other_ready { MayDraw site.now.base other.old.me }
     requires some { 2 ≤ length gates.old }
-    requires spare { length gates.old ≤ seat.old.me.0.spare + 2 }
+    requires seats_left { length gates.old ≤ seat.old.me.0.seats_left + 2 }
     requires new { other.old.me.0.done ≡ [] }
     ensures board { seat.new.table_id ≡ seat.old.table_id }
     ensures other_board { other.new.table_id ≡ other.old.table_id }
@@ -86,12 +86,12 @@ fn work_by_parts<R: Threads + Sync, T: Piece, G: Gate>(
     ensures gates { Worked G.entries site.now.round gates.old gates.new seat.old.me.0.done (other.new.me.0.done ++ seat.new.me.0.done) }
 {
     let (left, right) = gates.split_at_mut(1);
-    work_by_seats(site, seat, other, left, right);
+    work_in_threads(site, seat, other, left, right);
 }
 
-/// Each seat in a thread of its own.
+/// The two seats work at their parts of the gates, each in a thread of its own.
 #[cycle(workers)]
-fn work_by_seats<R: Threads + Sync, T: Piece, G: Gate>(
+fn work_in_threads<R: Threads + Sync, T: Piece, G: Gate>(
     site: &Site<'_, R, T>,
     seat: &mut Seat<T>,
     other: &mut Seat<T>,
@@ -105,7 +105,7 @@ fn work_by_seats<R: Threads + Sync, T: Piece, G: Gate>(
     requires other_ready { MayDraw site.now.base other.old.me }
     requires left { length left.old ≡ 1 }
     requires right { 0 < length right.old }
-    requires spare { length right.old ≤ seat.old.me.0.spare + 1 }
+    requires seats_left { length right.old ≤ seat.old.me.0.seats_left + 1 }
     ensures board { seat.new.table_id ≡ seat.old.table_id }
     ensures other_board { other.new.table_id ≡ other.old.table_id }
     ensures drawn { HasDrawn seat.old.me seat.new.me }
@@ -123,7 +123,7 @@ fn work_by_seats<R: Threads + Sync, T: Piece, G: Gate>(
         { work_first(site, other, left) },
         &mut ||
             requires { IsSync R.row × (seat.now.table_id ≡ board_id site.now.board.now) × IsFirst seat.now.me.0.role
-                × MayDraw site.now.base seat.now.me × (0 < length right.now) × (length right.now ≤ seat.now.me.0.spare + 1) }
+                × MayDraw site.now.base seat.now.me × (0 < length right.now) × (length right.now ≤ seat.now.me.0.seats_left + 1) }
             ensures { (seat.exit.now.table_id ≡ seat.entry.now.table_id) × HasDrawn seat.entry.now.me seat.exit.now.me
                 × Worked G.entries site.entry.now.round right.entry.now right.exit.now seat.entry.now.me.0.done seat.exit.now.me.0.done }
         { work_by_gates(site, seat, right) },

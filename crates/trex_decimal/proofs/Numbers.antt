@@ -8,7 +8,7 @@ use Rattle.std.proofs.lemmas.Bool.Decides.{nat_tests}
 use Rattle.std.proofs.lemmas.Str.Parse.{IsNumeralModel, numerals_by_value, tells_all_ascii_digits, parse_plain, parse_signed_plain, parse_signed_minus, not_in_digits}
 use Rattle.trex_decimal.specs.Decimal.{number_below, whole_of, signed_of}
 
-own : IsNumeralModel (λ ds. all_ascii_digits ds ≡ true) (digits_value 10)
+pub own : IsNumeralModel (λ ds. all_ascii_digits ds ≡ true) (digits_value 10)
 own = numerals_by_value (λ ds. all_ascii_digits ds ≡ true) tells_all_ascii_digits
 
 chosen : (a b c : Bool) (n : ℕ) → a ≡ true → b ≡ true → c ≡ true → cond (a && (b && c)) (Some n) None ≡ Some n
@@ -29,7 +29,7 @@ lt_true m n less = grind (arith, nat_tests)
 true_lt : (m n : ℕ) → nat_lt m n ≡ true → m < n
 true_lt m n is = grind (arith, nat_tests)
 
-below_some : (bound : ℕ) (text : List ℕ) → all_ascii_digits text ≡ true → 0 < length text → digits_value 10 text < bound → number_below bound text ≡ Some (digits_value 10 text)
+pub below_some : (bound : ℕ) (text : List ℕ) → all_ascii_digits text ≡ true → 0 < length text → digits_value 10 text < bound → number_below bound text ≡ Some (digits_value 10 text)
 below_some bound text digits some small = chosen (nat_lt 0 (length text)) (all_ascii_digits text) (nat_lt (digits_value 10 text) bound) (digits_value 10 text) (lt_true 0 (length text) some) digits (lt_true (digits_value 10 text) bound small)
 
 below_none : (bound : ℕ) (text : List ℕ) → ((all_ascii_digits text ≡ true) × (0 < length text) × (digits_value 10 text < bound) → ⊥) → number_below bound text ≡ None

@@ -17,7 +17,7 @@ number_below bound text = if nat_lt 0 (length text) && (all_ascii_digits text &&
 unfoldable pub whole_of : List ℕ → Option ℕ
 whole_of text = number_below (2 ^ 64) text
 
--- the same with an optional minus sign before the digits, if an i64 holds the value
+-- the value of one or more digits after an optional minus sign, if an i64 holds it
 unfoldable pub signed_of : List ℕ → Option ℤ
 signed_of text = if slice_index text 0 == 45 then option_map (λ n. neg_ℤ (pos n)) (number_below (2 ^ 63 + 1) (drop 1 text)) else option_map pos (number_below (2 ^ 63) text)
 

@@ -10,9 +10,11 @@ use Rattle.trex_decimal.specs.declared.place.Place.TheVariants.{Start, Whole, Po
 abbrev pub is_mark : ℕ → Bool
 is_mark b = b == 101 || b == 69
 
+-- the point of a decimal
 abbrev pub is_point : ℕ → Bool
 is_point b = b == 46
 
+-- a sign: `+` or `-`
 abbrev pub is_sign : ℕ → Bool
 is_sign b = b == 43 || b == 45
 

@@ -18,15 +18,15 @@ text_len protected [] = 0
 text_len true (b ∷ bs) = 1 + text_len false bs
 text_len false (b ∷ bs) = if b == 34 then 1 else 1 + text_len (b == 92) bs
 
--- how many further bytes the piece has that begins with b, before the bytes bs: a JSON text, a number token, or b alone
-abbrev pub further_len : ℕ → List ℕ → ℕ
-further_len b bs = if b == 34 then text_len false bs else (if begins_token b then length (take_while is_token_byte bs) else 0)
+-- how many of the bytes bs belong to the piece that begins with the byte b before them: a JSON text, a number token, or b alone
+abbrev pub rest_len : ℕ → List ℕ → ℕ
+rest_len b bs = if b == 34 then text_len false bs else (if begins_token b then length (take_while is_token_byte bs) else 0)
 
 -- the first n pieces, cut from the left
 abbrev pub pieces_of : ℕ → List ℕ → List (List ℕ)
 pieces_of zero bs = []
 pieces_of (suc n) [] = []
-pieces_of (suc n) (b ∷ bs) = (b ∷ take (further_len b bs) bs) ∷ pieces_of n (drop (further_len b bs) bs)
+pieces_of (suc n) (b ∷ bs) = (b ∷ take (rest_len b bs) bs) ∷ pieces_of n (drop (rest_len b bs) bs)
 
 -- a piece as it is kept, a number token between quotes
 abbrev pub kept : List ℕ → List ℕ

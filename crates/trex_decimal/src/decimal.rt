@@ -1,3 +1,5 @@
+// Decimals as scaled whole numbers, floored. The form is looked at first (`stop_of`), and then the value is computed.
+
 ghost use Rattle.std.specs.Prelude.{◌≡◌, ◌≤◌, ◌<◌, ◌^◌, length, filter};
 ghost use Rattle.std.specs.Char.{is_ascii_digit};
 ghost use Rattle.std.specs.List.{before_first, after_first};
@@ -20,7 +22,7 @@ pub enum DecimalFault {
     TooLarge,
 }
 
-// The number that the digits of a text write, whatever stands between them.
+/// The number that the digits of a text write, whatever stands between them.
 fn digits_number(text: &[u8]) -> u128
     requires { length (filter is_ascii_digit text.now) ≤ 38 }
     ensures value { result ≡ digits_number text.now }
@@ -35,21 +37,21 @@ fn digits_number(text: &[u8]) -> u128
     number
 }
 
-// How many bytes stand before the exponent's mark.
+/// How many bytes of a decimal stand before the exponent's mark.
 fn mantissa_len(text: &[u8]) -> usize
     ensures { result ≡ length (before_first is_mark text.now) }
 {
     text.iter().take_while(|byte| !is_mark(**byte)).count()
 }
 
-// How many bytes stand before the point.
+/// How many bytes of a mantissa stand before the point.
 fn whole_len(mantissa: &[u8]) -> usize
     ensures { result ≡ length (before_first is_point mantissa.now) }
 {
     mantissa.iter().take_while(|byte| !is_point(**byte)).count()
 }
 
-// How many digits stand after the point.
+/// How many digits of a mantissa stand after the point.
 fn fraction_len(mantissa: &[u8]) -> usize
     ensures { result ≡ length (after_first is_point mantissa.now) }
 {
@@ -59,7 +61,7 @@ fn fraction_len(mantissa: &[u8]) -> usize
         .saturating_sub(whole_len(mantissa))
 }
 
-// A decimal times 10 ^ digits, floored, where that is below 10 ^ 30.
+/// A decimal times 10 ^ `digits`, floored. None where that is 10 ^ 30 or more.
 fn floor_of(text: &[u8], digits: u32) -> Option<u128>
     requires { length (filter is_ascii_digit text.now) ≤ 38 }
     ensures { result ≡ below_limit (floor_of text.now digits) }

@@ -1,9 +1,11 @@
+// Where a text stops being a decimal.
+
 ghost use Rattle.std.specs.Prelude.{◌≡◌};
 ghost use Rattle.trex_decimal.specs.Grammar.{stop_of};
 
 use crate::place::Place;
 
-// How many bytes of a text are the front of a decimal, or nothing where it is one.
+/// How many bytes of a text are the front of a decimal. None where the whole text is one.
 #[tactic(auto, unfolding(crate::specs::Grammar::stop_of))]
 pub fn stop_of(text: &[u8]) -> Option<usize>
     ensures { result ≡ stop_of text.now }

@@ -1,4 +1,4 @@
-// Numbers in texts: number tokens put between quotes, decimals as scaled whole numbers, whole and signed numbers.
+//! Numbers in texts: number tokens put between quotes, decimals as scaled whole numbers, whole and signed numbers.
 #![tactic(auto)]
 
 mod decimal;

@@ -1,9 +1,11 @@
+// The places of a decimal, and where each byte leads from one: the grammar as a machine that reads byte by byte.
+
 ghost use Rattle.std.specs.Prelude.{◌≡◌, true, false, Option};
 ghost use Rattle.std.specs.Char.{is_ascii_digit};
 ghost use Rattle.trex_decimal.specs.Grammar.{next, may_end, is_mark, is_point};
 
-// A place in a decimal, named for what was read last. The number is how many more digits may stand before the exponent's
-// mark, besides one that must follow a point; at the exponent's first digit it is that digit.
+/// A place in a decimal, named for what was read last. The number is how many more digits may stand before the exponent's
+/// mark, besides one that must follow a point; at the exponent's first digit it is that digit.
 #[derive(Clone, Copy, Debug, PartialEq, Eq)]
 pub enum Place {
     Start,
@@ -16,21 +18,21 @@ pub enum Place {
     End,
 }
 
-// The mark of an exponent.
+/// Whether a byte is the mark of an exponent.
 pub fn is_mark(byte: u8) -> bool
     ensures { result ≡ is_mark byte }
 {
     byte == b'e' || byte == b'E'
 }
 
-// The point of a decimal.
+/// Whether a byte is the point of a decimal.
 pub fn is_point(byte: u8) -> bool
     ensures { result ≡ is_point byte }
 {
     byte == b'.'
 }
 
-// Where a digit leads from a place, if it may stand there.
+/// Where a digit leads from a place. None where it can't stand there.
 fn next_digit(place: Place, byte: u8) -> Option<Place>
     requires { is_ascii_digit byte ≡ true }
     ensures { result ≡ next place byte }
@@ -49,7 +51,7 @@ fn next_digit(place: Place, byte: u8) -> Option<Place>
     }
 }
 
-// Where a byte that is no digit leads from a place, if it may stand there.
+/// Where a byte that is no digit leads from a place. None where it can't stand there.
 fn next_other(place: Place, byte: u8) -> Option<Place>
     requires { is_ascii_digit byte ≡ false }
     ensures { result ≡ next place byte }
@@ -63,7 +65,7 @@ fn next_other(place: Place, byte: u8) -> Option<Place>
 }
 
 impl Place {
-    // Where a byte leads, if it may stand there.
+    /// Where a byte leads. None where it can't stand here.
     pub fn next(self, byte: u8) -> Option<Place>
         ensures { result ≡ next self byte }
     {
@@ -74,7 +76,7 @@ impl Place {
         }
     }
 
-    // Whether a decimal may end here.
+    /// Whether a decimal may end here.
     pub fn may_end(self) -> bool
         ensures { result ≡ may_end self }
     {

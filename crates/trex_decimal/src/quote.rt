@@ -1,29 +1,34 @@
+// Number tokens are put between quotes, so that JSON reads them as texts. The text is cut into pieces from the left: a JSON text, a
+// number token, or any other single byte.
+
 ghost use Rattle.std.specs.Prelude.{◌≡◌, ◌<◌, ◌≤◌, ◌+◌, ◌++◌, ◌&&◌, ◌==◌, not, false, length, drop, slice_index, take_while, IfOk, OnOk};
-ghost use Rattle.trex_decimal.specs.Quoted.{begins_token, is_token_byte, text_len, further_len, kept, quoted};
+ghost use Rattle.trex_decimal.specs.Quoted.{begins_token, is_token_byte, text_len, rest_len, kept, quoted};
 
 use std::alloc::Global;
 use trex_io::Memory;
 
+/// Whether a byte begins a number token.
 fn begins_token(byte: u8) -> bool
     ensures { result ≡ begins_token byte }
 {
     byte.is_ascii_digit() || byte == b'-'
 }
 
+/// Whether a number token goes on over a byte.
 fn is_token_byte(byte: u8) -> bool
     ensures { result ≡ is_token_byte byte }
 {
     byte.is_ascii_digit() || matches!(byte, b'+' | b'-' | b'.' | b'e' | b'E')
 }
 
-// Whether a byte is the one that is wanted and isn't protected.
+/// Whether a byte is the one that is wanted and isn't protected by a backslash before it.
 fn is_bare(byte: u8, wanted: u8, protected: bool) -> bool
     ensures { result ≡ (not protected && (byte == wanted)) }
 {
     !protected && byte == wanted
 }
 
-// How many bytes of a JSON text follow its opening quote, which stands before these.
+/// How many of these bytes belong to the JSON text whose opening quote stands before them.
 fn text_len(bytes: &[u8]) -> usize
     ensures value { result ≡ text_len false bytes.now }
     ensures within { result ≤ length bytes.now }
@@ -38,7 +43,7 @@ fn text_len(bytes: &[u8]) -> usize
     bytes.len()
 }
 
-// How many of these bytes a number token goes on over.
+/// How many of these bytes a number token goes on over.
 fn token_len(bytes: &[u8]) -> usize
     ensures value { result ≡ length (take_while is_token_byte bytes.now) }
     ensures within { result ≤ length bytes.now }
@@ -49,9 +54,9 @@ fn token_len(bytes: &[u8]) -> usize
         .count()
 }
 
-// How many of the bytes after the first one belong to its piece.
-fn further_len(first: u8, after: &[u8]) -> usize
-    ensures value { result ≡ further_len first after.now }
+/// How many of the bytes after the first byte of a piece belong to it.
+fn rest_len(first: u8, after: &[u8]) -> usize
+    ensures value { result ≡ rest_len first after.now }
     ensures within { result ≤ length after.now }
 {
     if first == b'"' {
@@ -63,16 +68,16 @@ fn further_len(first: u8, after: &[u8]) -> usize
     }
 }
 
-// How many bytes the first piece of a text has.
+/// How many bytes the first piece of a text has.
 fn piece_len(text: &[u8]) -> usize
     requires { 0 < length text.now }
-    ensures value { result ≡ 1 + further_len (slice_index text.now 0) (drop 1 text.now) }
+    ensures value { result ≡ 1 + rest_len (slice_index text.now 0) (drop 1 text.now) }
     ensures within { result ≤ length text.now }
 {
-    1 + further_len(text[0], &text[1..])
+    1 + rest_len(text[0], &text[1..])
 }
 
-// Appends a piece, a number token between quotes.
+/// Appends a piece, a number token between quotes.
 fn push_piece(out: &mut Vec<u8>, piece: &[u8]) -> Result<(), Memory>
     requires { 0 < length piece.now }
     ensures { OnOk result (out.new.items ≡ out.old.items ++ kept piece.now) }

@@ -1,64 +1,67 @@
+// The values and the faults that the contracts leave to their definitions: worked decimals, the ends of u64 and i64, and quoted texts.
+
 ghost use Rattle.std.specs.Prelude.{◌≤◌};
 
 use super::*;
 use std::test::Fail;
 
-// What `scaled` answers: the value, or where the text stops being a decimal, or neither.
+/// What `scaled` answers, in a form that can be compared: the value, or where the text stops being a decimal, or neither.
 #[derive(Clone, Copy, Debug, PartialEq)]
-enum Told {
+enum Answer {
     Value(u128),
     Syntax(usize),
     TooLarge,
 }
 
-fn answer(text: &str, digits: u32) -> Told
+/// The answer of `scaled`.
+fn answer_of(text: &str, digits: u32) -> Answer
     requires { digits ≤ 9 }
 {
     match scaled(text, digits) {
-        Ok(value) => Told::Value(value),
-        Err(DecimalFault::Syntax { at }) => Told::Syntax(at),
-        Err(DecimalFault::TooLarge) => Told::TooLarge,
+        Ok(value) => Answer::Value(value),
+        Err(DecimalFault::Syntax { at }) => Answer::Syntax(at),
+        Err(DecimalFault::TooLarge) => Answer::TooLarge,
     }
 }
 
 #[test]
 fn decimals_are_floored_or_refused_where_they_stop(rt: HostRuntime) {
     for (text, want) in [
-        ("1.", Told::Syntax(2)),
-        ("1e21", Told::Syntax(3)),
-        ("1e20", Told::Value(100_000_000_000_000_000_000)),
-        ("", Told::Syntax(0)),
-        ("-1", Told::Syntax(0)),
-        ("1e+", Told::Syntax(3)),
-        ("1e-20", Told::Value(0)),
-        ("29e-1", Told::Value(2)),
+        ("1.", Answer::Syntax(2)),
+        ("1e21", Answer::Syntax(3)),
+        ("1e20", Answer::Value(100_000_000_000_000_000_000)),
+        ("", Answer::Syntax(0)),
+        ("-1", Answer::Syntax(0)),
+        ("1e+", Answer::Syntax(3)),
+        ("1e-20", Answer::Value(0)),
+        ("29e-1", Answer::Value(2)),
         (
             "123456789012345678901234567890.123456",
-            Told::Value(123_456_789_012_345_678_901_234_567_890),
+            Answer::Value(123_456_789_012_345_678_901_234_567_890),
         ),
-        ("1234567890123456789012345678901234567", Told::Syntax(36)),
-        ("123456789012345678901234567890123456.", Told::Syntax(36)),
-        ("123456789012345678901234567890.1234567", Told::Syntax(37)),
-        ("1000000000000000000000000000000", Told::TooLarge),
+        ("1234567890123456789012345678901234567", Answer::Syntax(36)),
+        ("123456789012345678901234567890123456.", Answer::Syntax(36)),
+        ("123456789012345678901234567890.1234567", Answer::Syntax(37)),
+        ("1000000000000000000000000000000", Answer::TooLarge),
         (
             "999999999999999999999999999999.9",
-            Told::Value(999_999_999_999_999_999_999_999_999_999),
+            Answer::Value(999_999_999_999_999_999_999_999_999_999),
         ),
     ] {
-        assert_eq!(rt; answer(text, 0), want, "{text}");
+        assert_eq!(rt; answer_of(text, 0), want, "{text}");
     }
 }
 
 #[test]
 fn decimals_are_scaled(rt: HostRuntime) {
-    assert_eq!(rt; answer("1e+06", 6), Told::Value(1_000_000_000_000));
-    assert_eq!(rt; answer("0.0009", 3), Told::Value(0));
-    assert_eq!(rt; answer("12.5", 3), Told::Value(12_500));
+    assert_eq!(rt; answer_of("1e+06", 6), Answer::Value(1_000_000_000_000));
+    assert_eq!(rt; answer_of("0.0009", 3), Answer::Value(0));
+    assert_eq!(rt; answer_of("12.5", 3), Answer::Value(12_500));
     assert_eq!(rt;
-        answer("1e20", 9),
-        Told::Value(100_000_000_000_000_000_000_000_000_000)
+        answer_of("1e20", 9),
+        Answer::Value(100_000_000_000_000_000_000_000_000_000)
     );
-    assert_eq!(rt; answer("10e20", 9), Told::TooLarge);
+    assert_eq!(rt; answer_of("10e20", 9), Answer::TooLarge);
 }
 
 #[test]

@@ -17,6 +17,7 @@ pub record Row : Type 0 where
   pub offset : ℕ
   pub size : ℕ
 
+-- a field from its columns
 abbrev pub row : List ℕ → Base → ℕ → ℕ → Row
 row name base offset size = record { name = name; base = base; offset = offset; size = size }
 
@@ -80,7 +81,7 @@ field_table =
     row (codes "UDP.head") Udp 0 8 ∷
     []
 
--- the field has that name
+-- whether a field has a name
 abbrev pub named : List ℕ → Row → Bool
 named name field = bytes_eq field.name name
 
@@ -97,6 +98,6 @@ base_of layers Udp = option_and_then udp_of layers.l4
 abbrev pub place_in : Layers → Row → Option Place
 place_in layers field = option_map (λ base. record { at = base + field.offset; size = field.size }) (base_of layers field.base)
 
--- the place of the field with that name
+-- the place of the field with a name
 abbrev pub place_by_name : Layers → List ℕ → Option Place
 place_by_name layers name = option_and_then (place_in layers) (find (named name) field_table)

@@ -1,4 +1,4 @@
-// Where a packet's fields lie, and numbers of 1, 2, 4 or 8 bytes read and written there.
+//! Where a packet's fields lie, and numbers of 1, 2, 4 or 8 bytes read and written there.
 #![tactic(auto)]
 
 mod numbers;

@@ -16,7 +16,8 @@ pub struct Place {
     pub size: usize,
 }
 
-/// The place of the field with that name, as `IP.src` or `TCP.dport`. None exactly where no field has the name or the packet hasn't its layer.
+/// The place of the field with a name, as `IP.src` or `TCP.dport`. None exactly where no field has the name or the packet hasn't its
+/// layer.
 pub fn place_of(layers: &Layers, name: &str) -> Option<Place>
     requires { BeginBelow (2 ^ 31) layers.now }
     ensures { result ≡ place_by_name layers.now name.now }
@@ -29,7 +30,7 @@ pub fn place_of(layers: &Layers, name: &str) -> Option<Place>
     })
 }
 
-// The place from which a layer's fields are counted.
+/// The place from which a layer's fields are counted. None where the packet hasn't the layer.
 fn base_in(layers: &Layers, base: Base) -> Option<usize>
     ensures { result ≡ base_of layers.now base }
 {

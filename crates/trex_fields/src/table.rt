@@ -1,4 +1,4 @@
-// The table of fields.
+// The table of fields: the name of each, its layer, and its place and length there.
 
 ghost use Rattle.std.specs.Prelude.{◌≡◌, map};
 ghost use Rattle.std.specs.List.{find};
@@ -38,7 +38,7 @@ macro_rules! fields {
     };
 }
 
-// All fields: name, layer, offset from the layer's base and length, both in bytes.
+/// All fields: name, layer, offset from the layer's base and length, both in bytes.
 #[tactic(auto, unfolding(crate::specs::Fields::field_table))]
 pub(crate) fn fields() -> [Field; 55]
     ensures { map row_of result ≡ field_table }
@@ -102,7 +102,7 @@ pub(crate) fn fields() -> [Field; 55]
     }
 }
 
-// The first field of a table with that name.
+/// The first field of a table with a name.
 pub(crate) fn find_field(table: &[Field], name: &str) -> Option<Field>
     ensures { option_map row_of result ≡ find (named name.now) (map row_of table.now) }
 {

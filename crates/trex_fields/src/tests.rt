@@ -1,3 +1,5 @@
+// The place of each field, from the offsets of the standards (IEEE 802.3; IEEE 802.1Q; RFC 791; RFC 793; RFC 768), and numbers in either order.
+
 use crate::{Place, place_of, read_be, read_le, write_be, write_le};
 use trex_layers::{Ipv4Place, L4Place, Layers};
 

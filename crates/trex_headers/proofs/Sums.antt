@@ -1,9 +1,11 @@
 -- The sums of what a checksum covers.
-use Rattle.std.proofs.Common.{◌≡◌, ℕ, ◌+◌, ◌-◌, ◌%◌, ◌<◌, List, [], ◌∷◌, ◌++◌, length, ap, arith, length-append}
+use Rattle.std.proofs.Common.{◌≡◌, ℕ, ◌+◌, ◌-◌, ◌%◌, ◌<◌, List, ◌∷◌, ◌++◌, length, ap, ◌∙◌, arith, length-append}
 use Rattle.byteorder.specs.Endian.{big_bytes}
 use Rattle.trex_sum.specs.Checksum.{sum_of, fold_of}
 use Rattle.trex_sum.proofs.SumLemmas.{sum_of-append}
-use Rattle.trex_headers.specs.Header.{pseudo_ipv4, pseudo_ipv6, sealed}
+use Rattle.trex_headers.specs.declared.layer.Version.TheVariants.{V6}
+use Rattle.trex_headers.specs.Header.{pseudo_ipv6, sealed}
+use Rattle.trex_headers.proofs.PseudoLemmas.{length-pseudo, sum_of-pseudo}
 
 -- the parts of what a checksum covers, with zeros in its place, add up
 sum_of-covered : (pseudo front back payload : List ℕ) → length pseudo % 2 ≡ 0 → length front % 2 ≡ 0 → length back % 2 ≡ 0
@@ -27,24 +29,10 @@ sealed-by written pseudo front back payload sum even even_front even_back is =
 -- the sum of the pseudo header over IPv6
 pub sum_of_pseudo_ipv6 : (src dst : List ℕ) (protocol len : ℕ) → length src ≡ 16 → length dst ≡ 16 → len < 65536
     → sum_of (pseudo_ipv6 (src ++ dst) protocol len) ≡ sum_of src + sum_of dst + protocol + len
-unfolding pseudo_ipv6
 sum_of_pseudo_ipv6 src dst protocol len from to short =
-    let ends = sum_of-append src dst (omega arith) in
-    let long = length-append src dst in
-    let whole = sum_of-append (src ++ dst) (big_bytes 4 len ++ (0 ∷ 0 ∷ 0 ∷ protocol ∷ [])) (omega arith) in
-    omega arith
-
-pub length-pseudo_ipv4 : (ends : List ℕ) (protocol len : ℕ) → length (pseudo_ipv4 ends protocol len) ≡ length ends + 4
-unfolding pseudo_ipv4
-length-pseudo_ipv4 ends protocol len = length-append ends (0 ∷ protocol ∷ big_bytes 2 len)
-
-pub length-pseudo_ipv6 : (ends : List ℕ) (protocol len : ℕ) → length (pseudo_ipv6 ends protocol len) ≡ length ends + 8
-unfolding pseudo_ipv6
-length-pseudo_ipv6 ends protocol len = length-append ends (big_bytes 4 len ++ (0 ∷ 0 ∷ 0 ∷ protocol ∷ []))
+    sum_of-pseudo V6 (src ++ dst) protocol len (omega (arith, length-append src dst)) short
+    ∙ ap (λ (s : ℕ). s + protocol + len) (sum_of-append src dst (omega arith))
 
 -- the pseudo header over IPv6 is whole words
 pub words_of_pseudo_ipv6 : (src dst : List ℕ) (protocol len : ℕ) → length src ≡ 16 → length dst ≡ 16 → length (pseudo_ipv6 (src ++ dst) protocol len) % 2 ≡ 0
-words_of_pseudo_ipv6 src dst protocol len from to =
-    let long = length-append src dst in
-    let whole = length-pseudo_ipv6 (src ++ dst) protocol len in
-    omega arith
+words_of_pseudo_ipv6 src dst protocol len from to = length-pseudo V6 (src ++ dst) protocol len (omega (arith, length-append src dst))

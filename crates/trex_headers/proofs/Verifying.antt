@@ -13,8 +13,10 @@ use Rattle.trex_headers.specs.Layer.{Layer, Ethernet, Vlan, Ipv4, Ipv6, Tcp, Udp
 use Rattle.trex_headers.specs.Order.{is_ipv4, is_network, is_segment}
 use Rattle.trex_headers.specs.Header.{sealed, ipv4_front, ipv6_front, tcp_front, tcp_back, udp_front, addresses, pseudo_header, protocol_before, header_of}
 use Rattle.trex_headers.specs.Built.{built, bytes_behind, header_length}
-use Rattle.trex_headers.specs.Verified.{place_behind, Network, network_of, segment_behind, IsSized, HeadersVerify}
-use Rattle.trex_headers.proofs.Sums.{length-pseudo_ipv4, words_of_pseudo_ipv6}
+use Rattle.trex_headers.specs.Network.{Network, network_of}
+use Rattle.trex_headers.specs.Verified.{place_behind, segment_behind, IsSized, HeadersVerify}
+use Rattle.trex_headers.proofs.PseudoLemmas.{length-pseudo_ipv4}
+use Rattle.trex_headers.proofs.Sums.{words_of_pseudo_ipv6}
 use Rattle.trex_headers.proofs.Lengths.{length-header_of, length-tcp_front, length-udp_front, length-ipv4_front}
 
 -- what a checksum covers, by the number in its place

@@ -3,6 +3,7 @@ use Rattle.std.specs.Prelude.{ℕ, List}
 use Rattle.trex_headers.specs.declared.layer.LayerView.{LayerView}
 use Rattle.trex_headers.specs.declared.layer.LayerView.TheVariants.{Ethernet as EthernetView, Vlan as VlanView, Ipv4 as Ipv4View, Ipv6 as Ipv6View, Tcp as TcpView, Udp as UdpView, Raw as RawView}
 
+-- a layer
 pub data Layer : Type 0 where
   -- destination, source, type
   Ethernet : List ℕ → List ℕ → ℕ → Layer

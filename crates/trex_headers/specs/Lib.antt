@@ -2,4 +2,5 @@ pub mod Layer
 pub mod Order
 pub mod Header
 pub mod Built
+pub mod Network
 pub mod Verified

@@ -10,14 +10,17 @@ is_link (Ethernet dst src etype) = true
 is_link (Vlan tci etype) = true
 is_link _ = false
 
+-- a tag
 abbrev pub is_tag : Layer → Bool
 is_tag (Vlan tci etype) = true
 is_tag _ = false
 
+-- an IPv4 header
 abbrev pub is_ipv4 : Layer → Bool
 is_ipv4 (Ipv4 tos id frag ttl proto src dst) = true
 is_ipv4 _ = false
 
+-- an IPv6 header
 abbrev pub is_ipv6 : Layer → Bool
 is_ipv6 (Ipv6 class label hop next src dst) = true
 is_ipv6 _ = false
@@ -27,11 +30,13 @@ abbrev pub is_network : Version → Layer → Bool
 is_network V4 one = is_ipv4 one
 is_network V6 one = is_ipv6 one
 
+-- a TCP or UDP header
 abbrev pub is_segment : Layer → Bool
 is_segment (Tcp sport dport seq ack flags window) = true
 is_segment (Udp sport dport) = true
 is_segment _ = false
 
+-- a payload
 abbrev pub is_payload : Layer → Bool
 is_payload (Raw bytes) = true
 is_payload _ = false

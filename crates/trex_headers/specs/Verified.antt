@@ -3,30 +3,14 @@ use Rattle.std.specs.Prelude.{◌≡◌, ℕ, ◌+◌, ◌-◌, IsTrue, List, �
 use Rattle.std.specs.List.{slice_range}
 use Rattle.trex_sum.specs.Checksum.{sum_of, Verifies}
 use Rattle.trex_headers.specs.declared.layer.Version.{Version}
-use Rattle.trex_headers.specs.declared.layer.Version.TheVariants.{V4, V6}
 use Rattle.trex_headers.specs.Layer.{Layer, Ipv6}
 use Rattle.trex_headers.specs.Order.{is_ipv4, is_network, is_segment}
-use Rattle.trex_headers.specs.Header.{pseudo_ipv4, pseudo_ipv6}
+use Rattle.trex_headers.specs.Network.{Network, network_of}
 use Rattle.trex_headers.specs.Built.{header_length}
 
 -- the place behind the headers of some layers
 abbrev pub place_behind : List Layer → ℕ
 place_behind front = sum_by header_length front
-
--- where the IP header of a version has what a segment's checksum covers, and what it covers of it
-pub record Network : Type 0 where
-  -- the place of the protocol or the next header
-  pub protocol : ℕ
-  -- where the two addresses begin, and where they and the header end
-  pub addresses : ℕ
-  pub end : ℕ
-  -- the pseudo header, by addresses, protocol and the segment's length
-  pub pseudo : List ℕ → ℕ → ℕ → List ℕ
-
--- the header of 20 bytes of IPv4 (RFC 791, section 3.1), and that of IPv6 (RFC 8200, section 3)
-abbrev pub network_of : Version → Network
-network_of V4 = record { protocol = 9; addresses = 12; end = 20; pseudo = pseudo_ipv4 }
-network_of V6 = record { protocol = 6; addresses = 8; end = 40; pseudo = pseudo_ipv6 }
 
 -- what the checksum of a segment covers, where the IP header stands at `ip` and the segment goes to the packet's end: the pseudo header
 -- and the segment

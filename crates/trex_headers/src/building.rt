@@ -1,4 +1,4 @@
-// The packet of some layers.
+// The packet of some layers: their order is looked at, then their length, and then each header is written.
 
 ghost use Rattle.std.specs.Prelude.{◌≡◌, ◌+◌, ◌≤◌, length, map, option_map, sum_by, nat_le, if◌then◌else◌, Some, None};
 ghost use Rattle.trex_headers.specs.Built.{Builds, bytes_behind, header_length};
@@ -6,6 +6,7 @@ ghost use Rattle.trex_headers.specs.Layer.{layer_of};
 
 use crate::header::{header_length, write_header};
 use crate::layer::{LayerView, Version};
+use crate::lending::{AsLayer, views};
 use crate::order::misplaced;
 use std::alloc::{AllocError, Global};
 use thiserror::Error;
@@ -87,4 +88,16 @@ pub fn build(
     let mut packet = vec![in alloc; 0; length]?;
     write_layers(&mut packet, None, layers);
     Ok(packet)
+}
+
+/// Builds the packet of layers that their type owns, as `build` does of layers that are lent to it.
+pub fn build_owned<L: AsLayer>(
+    alloc: Global,
+    version: Version,
+    layers: &[L],
+) -> Result<Vec<u8>, BuildFault>
+    ensures { Builds (λ packet. packet.items) result version (map L.plain layers.now) }
+{
+    let views = views(alloc, layers)?;
+    build(alloc, version, &views)
 }

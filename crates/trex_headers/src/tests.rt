@@ -1,4 +1,5 @@
-// Lengths are sums of those of the headers (RFC 791, section 3.1; RFC 8200, section 3; RFC 793, section 3.1; RFC 768).
+// Which orders of layers are accepted. Lengths are sums of those of the headers (RFC 791, section 3.1; RFC 8200, section 3; RFC 793,
+// section 3.1; RFC 768).
 
 use crate::{BuildFault, LayerView, Version, build, headers_verify};
 use std::alloc::{AllocError, Global};
@@ -73,6 +74,7 @@ fn answer_of(
     })
 }
 
+/// A version of IP, the letters of layers, the bytes of the payload, and the answer: the length of the packet, or the fault.
 const ROWS: [(Version, &str, usize, Result<usize, BuildFault>); 49] = [
     (Version::V4, "", 0, Err(BuildFault::Order { at: 0 })),
     (Version::V4, "V", 0, Err(BuildFault::Order { at: 0 })),

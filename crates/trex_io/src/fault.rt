@@ -1,6 +1,8 @@
+// The two ways in which a call fails: out of memory, and a read or a write that failed.
+
 use std::alloc::{AllocError, AllocFailed};
 
-/// Want of memory: the one answer that any call which allocates may give.
+/// Out of memory: the one error that any call which allocates may give.
 #[derive(Clone, Copy, Debug, PartialEq, Eq)]
 pub struct Memory;
 

@@ -1,4 +1,5 @@
-// Where bytes come from and go to, and the two ways in which the world fails a program.
+//! Sources and sinks, by which a program meets the world: the traits, those of std and those in memory, whole texts read and
+//! written over them, and the two ways in which a call fails.
 #![tactic(auto)]
 
 mod fault;

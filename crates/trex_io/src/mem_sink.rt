@@ -1,3 +1,5 @@
+// A sink in memory, whose failing calls are chosen beforehand, so that a test can fail any write.
+
 ghost use Rattle.std.specs.Prelude.{◌≡◌, ◌≤◌, ◌-◌, ◌<◌, ◌⊎◌, ◌↔◌, [], length, Contains, IfOk, IsErr, OnOk, Some};
 ghost use Rattle.std.specs.Io.{WritesAtMost};
 ghost use Rattle.std.specs.Io.KnownBytes.{WriteAppends};
@@ -10,8 +12,8 @@ use crate::sink::Sink;
 use std::alloc::Global;
 use std::marker::Model;
 
-/// A sink in memory. It takes at most so many bytes a call, holds at most so many in all, and fails at the calls that it is
-/// told to fail at.
+/// A sink in memory. It takes at most `per_call` bytes a call, holds at most `room` bytes in all, and fails at the calls whose
+/// numbers it is given.
 #[derive(Drop)]
 pub struct MemSink {
     held: Vec<u8>,
@@ -38,8 +40,8 @@ impl Model for MemSink {
 }
 
 impl MemSink {
-    /// A sink with room for so many bytes, which are reserved here. The calls are counted from 1, and `failing` has the
-    /// numbers of those that fail.
+    /// A sink with room for `room` bytes, which are reserved here. The calls are counted from 1, and `failing` has the numbers
+    /// of those that fail.
     pub fn new(
         alloc: Global,
         room: usize,

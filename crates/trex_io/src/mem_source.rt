@@ -1,3 +1,5 @@
+// A source in memory, whose failing calls are chosen beforehand, so that a test can fail any read.
+
 ghost use Rattle.std.specs.Prelude.{◌≡◌, ◌≤◌, ◌↔◌, drop, take, length, Contains, IfOk, IsErr, OnOk, Some};
 ghost use Rattle.std.specs.Io.{ReadsAtMost};
 ghost use Rattle.std.specs.Io.KnownBytes.{ReadConsumes};
@@ -9,7 +11,7 @@ use crate::fault::Failed;
 use crate::source::Source;
 use std::marker::Model;
 
-/// A source in memory. It gives at most so many bytes a call, and fails at the calls that it is told to fail at.
+/// A source in memory. It gives at most `per_call` bytes a call, and fails at the calls whose numbers it is given.
 #[derive(Drop)]
 pub struct MemSource {
     bytes: Vec<u8>,
@@ -57,7 +59,7 @@ impl MemSource {
     }
 }
 
-// Copies a piece into the front of a buffer.
+/// Copies a piece into the front of a buffer.
 fn copy_front(into: &mut [u8], piece: &[u8])
     requires { length piece.now ≤ length into.old }
     ensures { take (length piece.now) into.new ≡ piece.now }

@@ -1,3 +1,5 @@
+// A source is read to its end, within a limit.
+
 ghost use Rattle.std.specs.Prelude.{ℕ, ◌<◌, ◌≤◌, List, length, IfOk, IfErr, OnOk, IsErrOf, vec_len};
 ghost use Rattle.std.specs.Io.KnownBytes.{Consumes, IsAtEnd};
 ghost use Rattle.trex_io.specs.Faults.{Rises};
@@ -16,15 +18,16 @@ pub enum ReadAll {
     /// The source has more bytes than the limit.
     #[error("more than {limit} bytes")]
     TooLong { limit: usize },
-    /// Want of memory.
+    /// There was no memory for the bytes.
     #[error("out of memory")]
     Memory,
 }
 
-// How many bytes one call of the source is asked for.
+/// How many bytes a call of the source is asked for.
 const PIECE: usize = 4096;
 
-/// Reads a source to its end. It stops with `TooLong` once it took more bytes than the limit. Each turn takes a byte at least.
+/// Reads a source to its end. It stops with `TooLong` once it took more than `limit` bytes. Each call of the source takes a
+/// byte at least or is the last, so the reading ends whatever the source.
 pub fn read_all<S: Source>(alloc: Global, source: &mut S, limit: usize) -> Result<Vec<u8>, ReadAll>
     ensures ok { IfOk result (λ all. Consumes (S.left source.old) (S.left source.new) all.items) }
     ensures end { OnOk result (IsAtEnd (S.left source.new)) }

@@ -1,3 +1,5 @@
+// What a sink is: a place where bytes go, piece by piece.
+
 ghost use Rattle.std.specs.Prelude.{ℕ, List, Option, ◌<◌, length, IfOk};
 ghost use Rattle.std.specs.Io.{WritesAtMost};
 ghost use Rattle.std.specs.Io.KnownBytes.{WriteAppends};
@@ -5,7 +7,8 @@ ghost use Rattle.trex_io.specs.Faults.{HasCause};
 
 use crate::fault::Failed;
 
-/// Where bytes go. A sink has a count of faults that never falls, and may tell the bytes that it holds.
+/// Where bytes go. A sink has a count of faults that never falls. Its contract may tell the bytes that it holds; that of a
+/// stream of the system tells none.
 pub trait Sink {
     /// The bytes that it holds, where it tells them.
     ghost held: { Self → Option (List ℕ) };

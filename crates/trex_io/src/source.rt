@@ -1,3 +1,5 @@
+// What a source is: a place from which bytes come, piece by piece.
+
 ghost use Rattle.std.specs.Prelude.{ℕ, List, Option};
 ghost use Rattle.std.specs.Io.{ReadsAtMost};
 ghost use Rattle.std.specs.Io.KnownBytes.{ReadConsumes};
@@ -5,7 +7,8 @@ ghost use Rattle.trex_io.specs.Faults.{HasCause};
 
 use crate::fault::Failed;
 
-/// Where bytes come from. A source has a count of faults that never falls, and may tell the bytes that it has left.
+/// Where bytes come from. A source has a count of faults that never falls. Its contract may tell the bytes that it has left;
+/// that of a stream of the system tells none.
 pub trait Source {
     /// The bytes that it has left, where it tells them.
     ghost left: { Self → Option (List ℕ) };

@@ -1,3 +1,5 @@
+// A writer of std as a sink.
+
 ghost use Rattle.std.specs.Prelude.{◌≡◌, ◌<◌, ◌≤◌, length, IfSome, None};
 
 use crate::fault::Failed;
@@ -20,8 +22,8 @@ impl<W: Write> StdSink<W> {
     }
 }
 
-// Writes a piece and flushes. It answers how many bytes were taken, and nothing after an error of either, or where none of a
-// piece's bytes was taken.
+/// Writes a piece and flushes, and answers how many bytes were taken. None comes after an error of either, and where none of
+/// a piece's bytes was taken.
 fn write_through<W: Write>(inner: &mut W, piece: &[u8]) -> Option<usize>
     ensures { IfSome result (λ n. (n ≤ length piece.now) × (0 < length piece.now → 0 < n)) }
 {

@@ -1,9 +1,11 @@
+// Which calls of a source or sink in memory fail, whole texts over them, and what std's readers and writers are asked for.
+
 use super::*;
 use std::alloc::{AllocError, Global};
 use std::io::{self, ErrorKind, Write};
 use std::test::Fail;
 
-/// A writer of std that takes at most three bytes a call, and counts its flushes. Where it is told to, a flush fails.
+/// A writer of std that takes at most three bytes a call, and counts its flushes. Where `fails` is set, a flush fails.
 #[derive(Drop)]
 struct Counting {
     taken: Vec<u8>,
@@ -29,11 +31,12 @@ impl Write for Counting {
     }
 }
 
+/// A list of numbers on the heap.
 fn numbers(alloc: Global, list: &[u64]) -> Result<Vec<u64>, AllocError> {
     list.to_vec(alloc)
 }
 
-// Five bytes, at most two a call, failing at the calls of the list.
+/// A source of five bytes, at most two a call, that fails at the calls of the list.
 fn letters(alloc: Global, failing: &[u64]) -> Result<MemSource, AllocError> {
     Ok(MemSource::new(b"abcde".to_vec(alloc)?, 2, numbers(alloc, failing)?))
 }

@@ -1,3 +1,5 @@
+// Whole texts written to a sink, by as many calls as it takes.
+
 ghost use Rattle.std.specs.List.{flat_map};
 ghost use Rattle.trex_io.specs.Texts.{Writes};
 

@@ -19,7 +19,7 @@ end_of_ipv6 bytes at = if is_ipv6 bytes at then Some (at + 40) else None
 abbrev pub has_ipv6 : List ℕ → Bool
 has_ipv6 bytes = has_bytes bytes 0 14 && ((type_after bytes (tags_of bytes) == 0x86dd) && is_ipv6 bytes (behind_tags (tags_of bytes)))
 
--- the place of that header
+-- the place of the IPv6 header behind Ethernet and at most two tags
 abbrev pub header6_of : List ℕ → Option ℕ
 header6_of bytes = if has_ipv6 bytes then Some (behind_tags (tags_of bytes)) else None
 
@@ -29,6 +29,7 @@ pub record Row : Type 0 where
   pub offset : ℕ
   pub size : ℕ
 
+-- a field from its columns
 abbrev pub row : List ℕ → ℕ → ℕ → Row
 row name offset size = record { name = name; offset = offset; size = size }
 
@@ -78,7 +79,7 @@ field6_table =
 abbrev pub row6_of : Field6 → Row
 row6_of field = row field.name.now field.offset field.size
 
--- the field has that name
+-- whether a field has a name
 abbrev pub named : List ℕ → Row → Bool
 named name field = bytes_eq field.name name
 
@@ -86,6 +87,6 @@ named name field = bytes_eq field.name name
 abbrev pub place6_in : List ℕ → Row → Option Place6
 place6_in bytes field = option_map (λ at. record { at = at + field.offset; size = field.size }) (header6_of bytes)
 
--- the place of the field with that name
+-- the place of the field with a name
 abbrev pub place6_by_name : List ℕ → List ℕ → Option Place6
 place6_by_name bytes name = option_and_then (place6_in bytes) (find (named name) field6_table)

@@ -4,9 +4,9 @@ ghost use Rattle.std.specs.Prelude.{All, map};
 ghost use Rattle.trex_ipv6.specs.Built.{Builds};
 ghost use Rattle.trex_ipv6.specs.Layer.{IsLabelled, layer6};
 
-use crate::layer::{Layer6, views};
+use crate::layer::Layer6;
 use std::alloc::Global;
-use trex_headers::{BuildFault, Version};
+use trex_headers::{BuildFault, Version, build_owned};
 
 /// Builds the packet of some layers over IPv6. The first layer is Ethernet; behind it come at most two tags, then one IPv6 header, then
 /// at most one TCP or UDP header, and then at most one payload. `Order` comes exactly where a layer can't stand at its place, or at the
@@ -18,6 +18,5 @@ pub fn build6(alloc: Global, layers: &[Layer6]) -> Result<Vec<u8>, BuildFault>
     requires { All IsLabelled (map layer6 layers.now) }
     ensures { Builds (λ packet. packet.items) result (map layer6 layers.now) }
 {
-    let views = views(alloc, layers)?;
-    trex_headers::build(alloc, Version::V6, &views)
+    build_owned(alloc, Version::V6, layers)
 }

@@ -1,10 +1,8 @@
 // A layer of a packet over IPv6, and how it is lent to the writer of headers.
 
-ghost use Rattle.std.specs.Prelude.{◌≡◌, IfOk, map};
-ghost use Rattle.trex_ipv6.specs.Layer.{layer6, layer_of};
+ghost use Rattle.trex_ipv6.specs.Layer.{layer6};
 
-use std::alloc::{AllocError, Global};
-use trex_headers::{LayerView, lend};
+use trex_headers::{AsLayer, LayerView, lend};
 
 /// A layer of a packet. Lengths, checksums and the numbers that name the layer behind are filled in where the packet is built.
 #[derive(Debug, Drop)]
@@ -50,36 +48,26 @@ pub enum Layer6 {
     },
 }
 
-/// A layer, lent.
-fn view(one: &Layer6) -> LayerView<'_>
-    ensures { layer_of result ≡ layer6 one.now }
-{
-    lend!(one, Layer6,
-        Layer6::Ipv6 {
-            class,
-            label,
-            hop,
-            next,
-            src,
-            dst,
-        } => LayerView::Ipv6 {
-            class: *class,
-            label: *label,
-            hop: *hop,
-            next: *next,
-            src,
-            dst,
-        },
-    )
-}
+impl AsLayer for Layer6 {
+    ghost plain = { layer6 };
 
-/// Layers, lent.
-pub(crate) fn views(alloc: Global, layers: &[Layer6]) -> Result<Vec<LayerView<'_>>, AllocError>
-    ensures { IfOk result (λ views. map layer_of views.items ≡ map layer6 layers.now) }
-{
-    let mut views = Vec::with_capacity(alloc, layers.len())?;
-    for one in layers {
-        views.push(view(one))?;
+    fn as_layer(&self) -> LayerView<'_> {
+        lend!(self, Layer6,
+            Layer6::Ipv6 {
+                class,
+                label,
+                hop,
+                next,
+                src,
+                dst,
+            } => LayerView::Ipv6 {
+                class: *class,
+                label: *label,
+                hop: *hop,
+                next: *next,
+                src,
+                dst,
+            },
+        )
     }
-    Ok(views)
 }

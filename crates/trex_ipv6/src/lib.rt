@@ -1,4 +1,4 @@
-// IPv6: packets from layers, where headers and fields stand, and address texts.
+//! IPv6: packets from layers, where headers and fields stand, and address texts.
 #![tactic(auto)]
 
 mod address;

@@ -47,7 +47,7 @@ fn header_in(bytes: &[u8]) -> Option<usize>
     Some(at)
 }
 
-/// The place of the field with that name, as `IPv6.src` or `IPv6.dst.15`. None exactly where no field has the name or the packet has no
+/// The place of the field with a name, as `IPv6.src` or `IPv6.dst.15`. None exactly where no field has the name or the packet has no
 /// IPv6 header behind Ethernet and at most two tags.
 pub fn place6_of(bytes: &[u8], name: &str) -> Option<Place6>
     ensures { result ≡ place6_by_name bytes.now name.now }

@@ -65,7 +65,7 @@ pub(crate) fn fields6() -> [Field6; 37]
     }
 }
 
-/// The first field of a table with that name.
+/// The first field of a table with a name.
 pub(crate) fn find_field6(table: &[Field6], name: &str) -> Option<Field6>
     ensures { option_map row6_of result ≡ find (named name.now) (map row6_of table.now) }
 {

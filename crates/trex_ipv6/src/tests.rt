@@ -1,4 +1,5 @@
-// Expected bytes of addresses are those of Python's ipaddress; checksums come from a second program, which adds by end-around carry.
+// Packets over IPv6 byte by byte, places of fields, and texts of addresses. Expected bytes of addresses are those of Python's ipaddress;
+// checksums come from a second program, which adds by end-around carry.
 
 use crate::{
     Build6Fault, Layer6, Place6, address6_of, build6, built6_headers_verify, ipv6_at, place6_of,
@@ -143,6 +144,7 @@ fn layers_that_end_before_ipv6_are_refused(rt: HostRuntime) {
     );
 }
 
+/// Names of fields, their offset from the header's first byte, and their length (RFC 8200, section 3).
 const NAMES: [(&str, usize, usize); 11] = [
     ("IPv6.len", 4, 2),
     ("IPv6.next", 6, 1),
@@ -192,6 +194,7 @@ fn fields_lie_behind_two_tags_at_most(rt: HostRuntime) {
     }
 }
 
+/// Texts of addresses and their bytes.
 const ADDRESSES: [(&str, [u8; 16]); 10] = [
     ("2001:db8::1", ONE),
     ("::", [0; 16]),

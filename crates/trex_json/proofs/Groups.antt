@@ -13,7 +13,7 @@ use Rattle.trex_json.specs.Names.{wrong, value}
 use Rattle.trex_json.specs.Operands.{instr_rules}
 use Rattle.trex_json.specs.Rows as row
 use Rattle.trex_json.specs.Order.{by_layers, rules_of, shape_rules}
-use Rattle.trex_json.specs.Shape.{field_rules, packet_wrong, rate_wrong, count_wrong, ibg_wrong, count_rules, mode_rules, flow_wrong, vm_wrong, items, work_rules, word_of, stream_rules, entry_rules}
+use Rattle.trex_json.specs.Shape.{field_rules, packet_wrong, rate_wrong, count_wrong, ibg_wrong, count_rules, mode_rules, flow_wrong, vm_wrong, items, effect_rules, word_of, stream_rules, entry_rules}
 
 -- the rules on a packet, one after another
 abbrev template_list : Data → List (Option Breach)
@@ -45,7 +45,7 @@ in_order : (entry stream : Data)
     → first (
     rule BadEntry (is_none (an_object entry)) ∷ rule BadStreamId (wrong row.stream_id entry) ∷ rule BadStream (wrong row.stream entry) ∷ stream_rules stream ∷ [])
     ≡ first (rules_of entry stream)
-unfolding stream_rules field_rules mode_rules count_rules work_rules
+unfolding stream_rules field_rules mode_rules count_rules effect_rules
 in_order entry stream =
     let Rules : Type 0 = List (Option Breach) in
     let mode = value row.mode stream in

@@ -25,7 +25,7 @@ is_paired text =
     length text == 17 && slice_index text 2 == 58 && slice_index text 5 == 58 && slice_index text 8 == 58 && slice_index text 11 == 58
     && slice_index text 14 == 58
 
--- The six bytes of a station's address: six pairs of hexadecimal digits, joined by ':'. Own.
+-- A MAC address: six pairs of hexadecimal digits, joined by ':', each the number of a byte. Own.
 unfoldable pub mac_of : List ℕ → Option (List ℕ)
 mac_of text =
     if is_paired text
@@ -40,7 +40,7 @@ octet_of text = if nat_le (length text) 3 then option_and_then (λ n. if nat_le 
 abbrev pub before_dot : List ℕ → List ℕ
 before_dot text = before_first (λ c. c == 46) text
 
--- what stands behind it, nothing where there is none
+-- what stands behind the first '.', nothing where there is none
 abbrev pub behind_dot : List ℕ → List ℕ
 behind_dot text = after_first (λ c. c == 46) text
 

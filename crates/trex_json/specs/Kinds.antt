@@ -1,5 +1,5 @@
 -- The kinds of values that a profile's names have (own).
-use Rattle.std.specs.Prelude.{ℕ, ◌-◌, ◌^◌, nat_eq, nat_le, bytes_eq, ℤ, pos, negsuc, zero, suc, codes, List, [], ◌∷◌, Option, None, Some, option_map, option_and_then, Result, Ok, Err, if◌then◌else◌}
+use Rattle.std.specs.Prelude.{ℕ, ◌-◌, ◌^◌, ◌==◌, nat_eq, nat_le, bytes_eq, ℤ, pos, negsuc, zero, suc, codes, List, [], ◌∷◌, Option, None, Some, option_map, option_and_then, Result, Ok, Err, if◌then◌else◌}
 use Rattle.std.specs.List.{list_any}
 use Rattle.base64.specs.Engines.{standard}
 use Rattle.base64.specs.GeneralPurpose.{decoded_of}
@@ -11,6 +11,8 @@ use Rattle.trex_profile.specs.declared.raw.RateKind.{RateKind}
 use Rattle.trex_profile.specs.declared.raw.RateKind.TheVariants.{Pps, BpsL1, BpsL2}
 use Rattle.trex_profile.specs.declared.raw.RawPlace.{RawPlace}
 use Rattle.trex_profile.specs.declared.raw.RawPlace.TheVariants.{At, Named}
+use Rattle.trex_stamp.specs.declared.header.Version.{Version}
+use Rattle.trex_stamp.specs.declared.header.Version.TheVariants.{One, Two}
 use Rattle.trex_vars.specs.declared.spec.Op.{Op}
 use Rattle.trex_vars.specs.declared.spec.Op.TheVariants.{Inc, Dec, Random}
 use Rattle.trex_json.specs.declared.kinds.InstrWord.{InstrWord}
@@ -52,7 +54,7 @@ read_value (Err fault) = None
 abbrev pub scaled : ℕ → Data → Option ℕ
 scaled digits d = option_and_then (λ text. read_value (scaled_of text digits)) (as_str d)
 
--- such a decimal, where its scaled value is no greater than this one
+-- a decimal times 10 to the power of digits, floored, where that is no greater than this number
 abbrev pub decimal : ℕ → ℕ → Data → Option ℕ
 decimal digits greatest d = option_and_then (at_most greatest) (scaled digits d)
 
@@ -92,12 +94,19 @@ rate_kind d = option_and_then rate_of_word (as_str d)
 abbrev pub latency_word : Data → Option (List ℕ)
 latency_word d = option_and_then (λ word. if bytes_eq word (codes "latency") then Some word else None) (as_str d)
 
+-- the version of a latency header
+abbrev pub version_of : ℕ → Option Version
+version_of n = if n == 1 then Some One else if n == 2 then Some Two else None
+
+abbrev pub a_version : Data → Option Version
+a_version d = option_and_then version_of (whole 2 d)
+
 -- the numbers of an array, each a whole number from 0 to the greatest
 abbrev pub numbers_of : ℕ → List Data → Option (List ℕ)
 numbers_of greatest [] = Some []
 numbers_of greatest (d ∷ ds) = option_and_then (λ n. option_map (λ ns. n ∷ ns) (numbers_of greatest ds)) (whole greatest d)
 
--- bytes as a base64 text (RFC 4648, section 4), or else as an array of whole numbers from 0 to 255
+-- bytes, as a base64 text (RFC 4648, section 4), or else as an array of whole numbers from 0 to 255
 abbrev pub bytes_by : Option (List ℕ) → Option (List Data) → Option (List ℕ)
 bytes_by (Some text) items = decoded_of standard text
 bytes_by None items = option_and_then (numbers_of 255) items
@@ -118,8 +127,8 @@ abbrev pub a_size : Data → Option ℕ
 a_size d = option_and_then (one_of (1 ∷ 2 ∷ 4 ∷ 8 ∷ [])) (whole 8 d)
 
 -- what stands behind an IPv4 header: 11 for UDP, 13 for TCP, 17 for anything
-abbrev pub a_segment : Data → Option ℕ
-a_segment d = option_and_then (one_of (11 ∷ 13 ∷ 17 ∷ [])) (whole 17 d)
+abbrev pub l4_code : Data → Option ℕ
+l4_code d = option_and_then (one_of (11 ∷ 13 ∷ 17 ∷ [])) (whole 17 d)
 
 -- a signed number
 abbrev pub a_signed : Data → Option ℤ
@@ -185,7 +194,7 @@ layer_of_word word =
 abbrev pub layer_word : Data → Option LayerWord
 layer_word d = option_and_then layer_of_word (as_str d)
 
--- the address of a station
+-- a MAC address
 abbrev pub a_mac : Data → Option (List ℕ)
 a_mac d = option_and_then mac_of (as_str d)
 

@@ -18,22 +18,22 @@ use Rattle.trex_json.specs.Rows as row
 unfoldable pub ethernet_wrong : Data → Bool
 ethernet_wrong d = wrong row.mac_dst d || wrong row.mac_src d || wrong row.etype d
 
--- those of a tag
+-- the names of a tag are wrong
 unfoldable pub vlan_wrong : Data → Bool
 vlan_wrong d = wrong row.tci d || wrong row.etype d
 
--- those of an IPv4 layer
+-- the names of an IPv4 layer are wrong
 unfoldable pub ipv4_wrong : Data → Bool
 ipv4_wrong d =
     wrong row.tos d || wrong row.ip_id d || wrong row.frag d || wrong row.ttl d || wrong row.proto d || wrong row.ip_src d
     || wrong row.ip_dst d
 
--- those of a TCP layer
+-- the names of a TCP layer are wrong
 unfoldable pub tcp_wrong : Data → Bool
 tcp_wrong d =
     wrong row.sport d || wrong row.dport d || wrong row.seq d || wrong row.ack d || wrong row.tcp_flags d || wrong row.window d
 
--- those of a UDP layer
+-- the names of a UDP layer are wrong
 unfoldable pub udp_wrong : Data → Bool
 udp_wrong d = wrong row.sport d || wrong row.dport d
 
@@ -52,12 +52,12 @@ ipv4 d =
     Ipv4 (value row.tos d) (value row.ip_id d) (value row.frag d) (value row.ttl d) (value row.proto d) (value row.ip_src d)
     (value row.ip_dst d)
 
--- a TCP layer
+-- a TCP layer, each default filled in
 abbrev pub tcp : Data → Layer
 tcp d =
     Tcp (value row.sport d) (value row.dport d) (value row.seq d) (value row.ack d) (value row.tcp_flags d) (value row.window d)
 
--- a layer of that word
+-- a layer of that word, each default filled in
 abbrev pub layer_by : LayerWord → Data → Layer
 layer_by EthernetWord d = Ethernet (value row.mac_dst d) (value row.mac_src d) (value row.etype d)
 layer_by VlanWord d = Vlan (value row.tci d) (value row.etype d)

@@ -7,6 +7,5 @@ pub mod Operands
 pub mod Layers
 pub mod Shape
 pub mod Order
-pub mod Answer
 pub mod Verdict
 pub mod EntryId

@@ -28,38 +28,42 @@ numbers size d = record {
   step = value row.step d;
 }
 
--- the operands of a counter or of a list, but for its values, are wrong
+-- the operands of a counter or of a list, but for its name and its values, are wrong
 unfoldable pub flow_var_wrong : Data → Bool
-flow_var_wrong d = wrong row.size d || wrong row.op d || numbers_wrong (value row.size d) d
+flow_var_wrong d = wrong row.size d || wrong row.op d || numbers_wrong (value row.size d) d || wrong row.restart d
 
 -- a counter of that name, or the list where there are values
 abbrev pub flow_var : List ℕ → Option (List ℕ) → Data → Instruction
 flow_var name None d =
     FlowVar name (value row.size d) (value row.op d) (value (row.init_value (value row.min_value d)) d) (value row.min_value d)
-    (value (row.max_value (value row.size d)) d) (value row.step d)
-flow_var name (Some values) d = ListVar name (value row.size d) (value row.op d) (value row.step d) values
+    (value (row.max_value (value row.size d)) d) (value row.step d) (value row.restart d)
+flow_var name (Some values) d = ListVar name (value row.size d) (value row.op d) (value row.step d) values (value row.restart d)
 
--- those of random numbers with a limit are wrong
+-- the operands of random numbers with a limit, but for their name, are wrong
 unfoldable pub rand_limit_wrong : ℕ → Data → Bool
 rand_limit_wrong seed d =
     wrong row.size d || wrong row.min_value d || wrong (row.max_value (value row.size d)) d || wrong row.limit d
-    || wrong (row.own_seed seed) d
+    || wrong (row.own_seed seed) d || wrong row.restart d
 
+-- random numbers of that name with a limit
 abbrev pub rand_limit : List ℕ → ℕ → Data → Instruction
 rand_limit name seed d =
     RandLimit name (value row.size d) (value row.min_value d) (value (row.max_value (value row.size d)) d) (value row.limit d)
-    (value (row.own_seed seed) d)
+    (value (row.own_seed seed) d) (value row.restart d)
 
--- those of pairs of an address and a port are wrong
+-- the operands of pairs of an address and a port, but for their name, are wrong
 unfoldable pub tuple_wrong : Data → Bool
 tuple_wrong d =
     wrong row.ip_min d || wrong row.ip_max d || wrong row.port_min d || wrong row.port_max d || wrong row.limit_flows d
+    || wrong row.restart d
 
+-- pairs of that name of an address and a port
 abbrev pub tuple : List ℕ → Data → Instruction
 tuple name d =
     Tuple name (value row.ip_min d) (value row.ip_max d) (value row.port_min d) (value row.port_max d) (value row.limit_flows d)
+    (value row.restart d)
 
--- those of a write are wrong
+-- the operands of a write, but for its name and its place, are wrong
 unfoldable pub write_wrong : Data → Bool
 write_wrong d = wrong row.add_value d || wrong row.is_big_endian d
 
@@ -67,20 +71,22 @@ write_wrong d = wrong row.add_value d || wrong row.is_big_endian d
 abbrev pub write : List ℕ → RawPlace → Data → Instruction
 write name place d = Write name place (value row.add_value d) (value row.is_big_endian d)
 
--- those of a masked write are wrong
+-- the operands of a masked write, but for its name and its place, are wrong
 unfoldable pub write_mask_wrong : Data → Bool
 write_mask_wrong d =
     wrong row.add_value d || wrong row.is_big_endian d || wrong row.cast_size d || wrong row.mask d || wrong row.shift d
 
+-- a masked write of that variable at a place
 abbrev pub write_mask : List ℕ → RawPlace → Data → Instruction
 write_mask name place d =
     WriteMask name place (value row.cast_size d) (value row.mask d) (value row.shift d) (value row.add_value d)
     (value row.is_big_endian d)
 
--- those of the fixes of a header and of what stands behind it are wrong
+-- the operands of the fixes of a header and of what stands behind it are wrong
 unfoldable pub fix_hw_wrong : Data → Bool
 fix_hw_wrong d = wrong row.l2_len d || wrong row.l3_len d || wrong row.l4_type d
 
+-- the fixes of a header and of what stands behind it
 abbrev pub fix_hw : Data → Instruction
 fix_hw d = FixHw (value row.l2_len d) (value row.l3_len d) (value row.l4_type d)
 
@@ -95,7 +101,7 @@ operands_wrong seed FixIpv4Word d = wrong row.fix_offset d
 operands_wrong seed FixHwWord d = fix_hw_wrong d
 operands_wrong seed TrimWord d = wrong row.name d
 
--- an instruction of that word
+-- the instruction of that word, its defaults filled in
 abbrev pub instruction_by : ℕ → InstrWord → Data → Instruction
 instruction_by seed FlowVarWord d = flow_var (value row.name d) (value row.value_list d) d
 instruction_by seed RandLimitWord d = rand_limit (value row.name d) seed d
@@ -106,7 +112,7 @@ instruction_by seed FixIpv4Word d = FixIpv4 (value row.fix_offset d)
 instruction_by seed FixHwWord d = fix_hw d
 instruction_by seed TrimWord d = Trim (value row.name d)
 
--- the rules on the instruction at a place, in their order
+-- the rules on the instruction at a place
 unfoldable pub instr_rules : ℕ → ℕ → Data → Option Breach
 instr_rules seed place d = first (
     rule_there BadInstruction place (is_none (an_object d) || wrong row.instr_type d)

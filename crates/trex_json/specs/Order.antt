@@ -48,6 +48,6 @@ rules_of entry stream =
     ∷ first_each (instr_rules (value row.seed stream)) 0 (items stream)
     ∷ []
 
--- the same of an entry alone
+-- the rules on an entry, its stream as it says it
 abbrev pub shape_rules : Data → List (Option Breach)
 shape_rules entry = rules_of entry (value row.stream entry)

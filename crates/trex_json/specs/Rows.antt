@@ -7,6 +7,9 @@ use Rattle.trex_profile.specs.declared.raw.RateKind.{RateKind}
 use Rattle.trex_profile.specs.declared.raw.RateKind.TheVariants.{Pps}
 use Rattle.trex_profile.specs.declared.raw.RawPlace.{RawPlace}
 use Rattle.trex_profile.specs.declared.raw.RawPlace.TheVariants.{At}
+use Rattle.trex_stamp.specs.declared.header.Version.{Version}
+use Rattle.trex_stamp.specs.declared.header.Version.TheVariants.{One}
+use Rattle.trex_stamp.specs.Stamp.{flow_size}
 use Rattle.trex_vars.specs.declared.spec.Op.{Op}
 use Rattle.trex_vars.specs.declared.spec.Op.TheVariants.{Inc}
 use Rattle.trex_json.specs.declared.kinds.InstrWord.{InstrWord}
@@ -15,7 +18,7 @@ use Rattle.trex_json.specs.declared.kinds.ModeWord.{ModeWord}
 use Rattle.trex_json.specs.declared.kinds.ModeWord.TheVariants.{Continuous}
 use Rattle.trex_json.specs.declared.kinds.LayerWord.{LayerWord}
 use Rattle.trex_json.specs.declared.kinds.LayerWord.TheVariants.{Raw}
-use Rattle.trex_json.specs.Kinds.{an_object, an_array, whole, scaled, decimal, next_id, mode_word, rate_kind, latency_word, bytes, values, a_size, a_segment, a_signed, a_shift, a_place, an_op, instr_word, layer_word, a_mac, an_address}
+use Rattle.trex_json.specs.Kinds.{an_object, an_array, whole, scaled, decimal, next_id, mode_word, rate_kind, latency_word, a_version, bytes, values, a_size, l4_code, a_signed, a_shift, a_place, an_op, instr_word, layer_word, a_mac, an_address}
 use Rattle.trex_json.specs.Names.{Row, optional, required}
 
 -- the names of an entry
@@ -99,8 +102,12 @@ flow_enabled = optional (codes "enabled") as_bool false
 abbrev pub rule_type : Row (List ℕ)
 rule_type = required (codes "rule_type") latency_word []
 
-abbrev pub flow_number : Row ℕ
-flow_number = required (codes "stream_id") (whole 65535) 0
+abbrev pub version : Row Version
+version = optional (codes "version") a_version One
+
+-- the greatest number that a latency header of that version has room for
+abbrev pub flow_number : Version → Row ℕ
+flow_number version = required (codes "stream_id") (whole (256 ^ flow_size version - 1)) 0
 
 -- the name of a stream's program
 abbrev pub instructions : Row (List Data)
@@ -139,6 +146,10 @@ value_list = optional (codes "value_list") values None
 
 abbrev pub limit : Row ℕ
 limit = required (codes "limit") (whole (2 ^ 64 - 1)) 0
+
+-- whether a variable begins anew at each visit
+abbrev pub restart : Row Bool
+restart = optional (codes "restart") as_bool false
 
 -- the stream's seed, where it is absent
 abbrev pub own_seed : ℕ → Row ℕ
@@ -187,7 +198,7 @@ abbrev pub l3_len : Row ℕ
 l3_len = required (codes "l3_len") (whole (2 ^ 64 - 1)) 0
 
 abbrev pub l4_type : Row ℕ
-l4_type = required (codes "l4_type") a_segment 17
+l4_type = required (codes "l4_type") l4_code 17
 
 -- the word of a layer
 abbrev pub layer_type : Row LayerWord

@@ -4,6 +4,7 @@ use Rattle.serde_json.specs.Data.{Data}
 use Rattle.trex_sched.specs.declared.mode.Mode.{Mode}
 use Rattle.trex_sched.specs.declared.mode.Mode.TheVariants.{Continuous, SingleBurst, MultiBurst}
 use Rattle.trex_profile.specs.declared.raw.RawRate.{RawRate}
+use Rattle.trex_profile.specs.declared.flow.Flow.{Flow}
 use Rattle.trex_profile.specs.declared.refusal.Breach.{Breach}
 use Rattle.trex_profile.specs.declared.refusal.Refusal.{Refusal}
 use Rattle.trex_profile.specs.declared.rule.Rule.TheVariants.{BadEntry, BadStreamId, BadStream, BadEnabled, BadSelfStart, BadIsg, BadNext, BadActionCount, BadSeed, BadPacket, BadMode, BadRate, BadCount, BadIbg, BadFlowStats, BadVm, TooManyInstructions}
@@ -99,26 +100,32 @@ mode_rules stream = first (
     ∷ count_rules (word_of stream) (value row.mode stream)
     ∷ [])
 
--- a flow is wrong: no object, or its `enabled` isn't Bool, or it is enabled and its rule or its number is wrong
+-- the rule, the version or the number of a flow is wrong
+unfoldable pub flow_names_wrong : Data → Bool
+flow_names_wrong d = wrong row.rule_type d || wrong row.version d || wrong (row.flow_number (value row.version d)) d
+
+-- the version and the number of a flow
+abbrev pub flow : Data → Flow
+flow d = record { version = value row.version d; number = value (row.flow_number (value row.version d)) d }
+
+-- a flow is wrong: no object, or its `enabled` isn't Bool, or it is enabled and another of its names is wrong
 unfoldable pub flow_wrong : Data → Bool
 flow_wrong stream =
     wrong row.flow_stats stream
     || wrong row.flow_enabled (value row.flow_stats stream)
-    || (value row.flow_enabled (value row.flow_stats stream)
-    && (wrong row.rule_type (value row.flow_stats stream) || wrong row.flow_number (value row.flow_stats stream)))
+    || (value row.flow_enabled (value row.flow_stats stream) && flow_names_wrong (value row.flow_stats stream))
 
 -- a program is wrong: no object, or its instructions are no array
 unfoldable pub vm_wrong : Data → Bool
 vm_wrong stream = wrong row.vm stream || wrong row.instructions (value row.vm stream)
 
--- the flow number of a stream that has a flow
-abbrev pub flow_of : Data → Option ℕ
-flow_of stream =
-    if value row.flow_enabled (value row.flow_stats stream) then Some (value row.flow_number (value row.flow_stats stream)) else None
+-- the flow of a stream that has one
+abbrev pub flow_of : Data → Option Flow
+flow_of stream = if value row.flow_enabled (value row.flow_stats stream) then Some (flow (value row.flow_stats stream)) else None
 
 -- the rules on a stream's flow and instructions
-unfoldable pub work_rules : ℕ → Data → Option Breach
-work_rules seed stream = first (
+unfoldable pub effect_rules : ℕ → Data → Option Breach
+effect_rules seed stream = first (
     rule BadFlowStats (flow_wrong stream)
     ∷ rule BadVm (vm_wrong stream)
     ∷ rule TooManyInstructions (nat_lt 256 (length (items stream)))
@@ -136,7 +143,7 @@ stream_rules stream = first (
     ∷ rule BadPacket (packet_wrong stream)
     ∷ template_rules (value row.packet stream)
     ∷ mode_rules stream
-    ∷ work_rules (value row.seed stream) stream
+    ∷ effect_rules (value row.seed stream) stream
     ∷ [])
 
 -- a stream of that id

@@ -7,8 +7,6 @@ use Rattle.trex_profile.specs.Order.{first, first_each, unless, ◌>>=◌}
 use Rattle.trex_profile.specs.Refusal.{document}
 use Rattle.trex_profile.specs.Admission.{admitted}
 use Rattle.trex_profile.specs.Stream.{Stream}
-use Rattle.trex_json.specs.declared.fault.ProfileFault.{ProfileFault}
-use Rattle.trex_json.specs.Answer.{Reads}
 use Rattle.trex_json.specs.Json.{json_of}
 use Rattle.trex_json.specs.Kinds.{an_array}
 use Rattle.trex_json.specs.Shape.{shape_refusal, entry_stream}
@@ -17,7 +15,7 @@ use Rattle.trex_json.specs.Shape.{shape_refusal, entry_stream}
 abbrev pub array_of : List ℕ → Option (List Data)
 array_of text = option_and_then an_array (json_of text)
 
--- the same, none where it isn't one
+-- the entries of a text, none where it isn't an array
 abbrev pub entries : List ℕ → List Data
 entries text = unwrap_or (array_of text) []
 
@@ -44,7 +42,3 @@ shape_of text = unless (text_refusal text) (map entry_stream (entries text))
 -- what a text says, unless a rule is broken
 abbrev pub verdict : List ℕ → Result (List Stream) Refusal
 verdict text = shape_of text >>= admitted
-
--- an answer is the verdict, unless memory ran out
-abbrev pub Answers : Result (List Stream) ProfileFault → Result (List Stream) Refusal → Type 0
-Answers answer verdict = Reads (λ streams. streams) answer verdict

@@ -34,7 +34,7 @@ fn is_paired(text: &[u8]) -> bool
         && text[14] == b':'
 }
 
-/// The six bytes of a station's address: six pairs of hexadecimal digits, joined by `:`.
+/// A MAC address: six pairs of hexadecimal digits, joined by `:`.
 #[tactic(auto, unfolding(crate::specs::Addresses::mac_of))]
 pub(crate) fn mac_of(text: &str) -> Option<[u8; 6]>
     ensures { result ≡ mac_of text.now }

@@ -1,9 +1,11 @@
+// Bytes and lists of numbers.
+
 ghost use Rattle.std.specs.Prelude.{◌≡◌, ◌-◌, ◌^◌, IfOk, map, None, Some, option_map};
 ghost use Rattle.base64.specs.Engines.{standard};
 ghost use Rattle.base64.specs.GeneralPurpose.{decoded_of};
 ghost use Rattle.serde_json.specs.View.{view};
 ghost use Rattle.trex_json.specs.Kinds.{numbers_of, bytes, values};
-ghost use Rattle.trex_json.specs.Names.{asked};
+ghost use Rattle.trex_json.specs.Names.{field};
 
 use crate::kinds::{an_array, whole};
 use crate::names::under;
@@ -16,7 +18,7 @@ use trex_io::Memory;
 /// The bytes of a base64 text (RFC 4648, section 4), where it is one.
 #[tactic(auto, unfolding(base64::specs::GeneralPurpose::decoded_of))]
 fn base64_bytes(alloc: Global, text: &str) -> Result<Option<Vec<u8>>, Memory>
-    ensures { IfOk result (λ bytes. option_map (λ v. v.items) bytes ≡ decoded_of standard text.now) }
+    ensures { IfOk result (λ read. option_map (λ v. v.items) read ≡ decoded_of standard text.now) }
 {
     match STANDARD.decode(alloc, text.as_bytes()) {
         Ok(bytes) => Ok(Some(bytes)),
@@ -27,7 +29,7 @@ fn base64_bytes(alloc: Global, text: &str) -> Result<Option<Vec<u8>>, Memory>
 
 /// The bytes of an array, where each item is a whole number from 0 to 255.
 fn array_bytes(alloc: Global, items: &[Value]) -> Result<Option<Vec<u8>>, Memory>
-    ensures { IfOk result (λ bytes. option_map (λ v. v.items) bytes ≡ numbers_of 255 (map view items.now)) }
+    ensures { IfOk result (λ read. option_map (λ v. v.items) read ≡ numbers_of 255 (map view items.now)) }
 {
     let mut bytes = Vec::new(alloc);
     for item in items {
@@ -41,7 +43,7 @@ fn array_bytes(alloc: Global, items: &[Value]) -> Result<Option<Vec<u8>>, Memory
 
 /// The bytes that a base64 text or an array gives, where it gives some.
 fn bytes_of(alloc: Global, value: &Value) -> Result<Option<Vec<u8>>, Memory>
-    ensures { IfOk result (λ told. option_map (λ v. v.items) told ≡ bytes (view value.now)) }
+    ensures { IfOk result (λ read. option_map (λ v. v.items) read ≡ bytes (view value.now)) }
 {
     if let Some(text) = value.as_str() {
         return base64_bytes(alloc, text);
@@ -53,12 +55,12 @@ fn bytes_of(alloc: Global, value: &Value) -> Result<Option<Vec<u8>>, Memory>
 }
 
 /// The bytes under a name.
-pub(crate) fn bytes_told(
+pub(crate) fn bytes_field(
     alloc: Global,
     object: &Value,
     name: &str,
 ) -> Result<Option<Vec<u8>>, Memory>
-    ensures { IfOk result (λ told. option_map (λ v. v.items) told ≡ asked name.now bytes None (view object.now)) }
+    ensures { IfOk result (λ read. option_map (λ v. v.items) read ≡ field name.now bytes None (view object.now)) }
 {
     match under(object, name) {
         Some(value) => bytes_of(alloc, value),
@@ -68,7 +70,7 @@ pub(crate) fn bytes_told(
 
 /// The numbers of an array, where each item is a whole number.
 fn array_values(alloc: Global, items: &[Value]) -> Result<Option<Vec<u64>>, Memory>
-    ensures { IfOk result (λ told. option_map (λ v. v.items) told ≡ numbers_of (2 ^ 64 - 1) (map view items.now)) }
+    ensures { IfOk result (λ read. option_map (λ v. v.items) read ≡ numbers_of (2 ^ 64 - 1) (map view items.now)) }
 {
     let mut values = Vec::new(alloc);
     for item in items {
@@ -81,12 +83,12 @@ fn array_values(alloc: Global, items: &[Value]) -> Result<Option<Vec<u64>>, Memo
 }
 
 /// The values under a name, none where it is absent.
-pub(crate) fn values_told(
+pub(crate) fn values_field(
     alloc: Global,
     object: &Value,
     name: &str,
 ) -> Result<Option<Option<Vec<u64>>>, Memory>
-    ensures { IfOk result (λ told. option_map (option_map (λ v. v.items)) told ≡ asked name.now values (Some None) (view object.now)) }
+    ensures { IfOk result (λ read. option_map (option_map (λ v. v.items)) read ≡ field name.now values (Some None) (view object.now)) }
 {
     let Some(value) = under(object, name) else {
         return Ok(Some(None));

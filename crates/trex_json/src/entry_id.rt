@@ -3,7 +3,7 @@
 ghost use Rattle.std.specs.Prelude.{◌≡◌, IfOk};
 ghost use Rattle.trex_json.specs.EntryId.{entry_id};
 
-use crate::names::whole_told;
+use crate::names::whole_field;
 use crate::reading::read_json;
 use std::alloc::Global;
 use trex_io::Memory;
@@ -16,6 +16,6 @@ pub fn read_entry_id(alloc: Global, text: &[u8]) -> Result<Option<u32>, Memory>
     let Some(entry) = read_json(alloc, text)? else {
         return Ok(None);
     };
-    let id = whole_told(&entry, "stream_id", 2_147_483_647, None).unwrap_or(0);
+    let id = whole_field(&entry, "stream_id", 2_147_483_647, None).unwrap_or(0);
     Ok(Some(id as u32))
 }

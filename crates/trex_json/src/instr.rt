@@ -7,15 +7,15 @@ ghost use Rattle.trex_profile.specs.Answer.{Gives};
 ghost use Rattle.trex_profile.specs.Instruction.{instruction, IsRawInstr, FixIpv4};
 ghost use Rattle.trex_profile.specs.Order.{first_each, unless};
 ghost use Rattle.trex_json.specs.Kinds.{place_of_text};
-ghost use Rattle.trex_json.specs.Names.{told};
+ghost use Rattle.trex_json.specs.Names.{row_value};
 ghost use Rattle.trex_json.specs.Operands.{numbers_wrong, numbers, flow_var_wrong, flow_var, rand_limit_wrong, rand_limit, tuple_wrong, tuple, write_wrong, write, write_mask_wrong, write_mask, fix_hw_wrong, fix_hw, operands_wrong, instruction_by, instr_rules, instruction_of};
 ghost use Rattle.trex_json.specs.Rows as row;
 
-use crate::binary::values_told;
+use crate::binary::values_field;
 use crate::kinds::{InstrWord, an_object};
 use crate::names::{
-    bool_told, instr_told, op_told, segment_told, shift_told, signed_told, size_told, text_told,
-    whole_told,
+    bool_field, instr_field, l4_code_field, op_field, shift_field, signed_field, size_field, text_field,
+    whole_field,
 };
 use serde_json::Value;
 use std::alloc::Global;
@@ -23,13 +23,20 @@ use trex_io::Memory;
 use trex_profile::{Name, RawInstr, RawPlace, Rule, StreamFault};
 
 /// The name of a variable.
-fn name_told(alloc: Global, item: &Value) -> Result<Option<Name>, Memory>
-    ensures { IfOk result (λ name. name ≡ told row.name (view item.now)) }
+fn name_field(alloc: Global, item: &Value) -> Result<Option<Name>, Memory>
+    ensures { IfOk result (λ name. name ≡ row_value row.name (view item.now)) }
 {
-    match text_told(item, "name") {
+    match text_field(item, "name") {
         Some(text) => Ok(Some(Name::of(alloc, text)?)),
         None => Ok(None),
     }
+}
+
+/// Whether a variable begins anew at each visit.
+fn restart_field(item: &Value) -> Option<bool>
+    ensures { result ≡ row_value row.restart (view item.now) }
+{
+    bool_field(item, "restart", false)
 }
 
 /// Where a write begins: the byte that a text writes, else the field that it names.
@@ -43,10 +50,10 @@ fn place_of(alloc: Global, text: &str) -> Result<RawPlace, Memory>
 }
 
 /// Where an instruction's write begins.
-fn place_told(alloc: Global, item: &Value) -> Result<Option<RawPlace>, Memory>
-    ensures { IfOk result (λ place. place ≡ told row.write_offset (view item.now)) }
+fn place_field(alloc: Global, item: &Value) -> Result<Option<RawPlace>, Memory>
+    ensures { IfOk result (λ place. place ≡ row_value row.write_offset (view item.now)) }
 {
-    match text_told(item, "pkt_offset") {
+    match text_field(item, "pkt_offset") {
         Some(text) => Ok(Some(place_of(alloc, text)?)),
         None => Ok(None),
     }
@@ -76,14 +83,14 @@ struct Numbers {
 
 /// The numbers of a counter of so many bytes.
 #[tactic(auto, unfolding(crate::specs::Operands::numbers_wrong))]
-fn numbers_told(size: u8, item: &Value) -> Option<Numbers>
+fn numbers_of(size: u8, item: &Value) -> Option<Numbers>
     requires { IsSize size }
     ensures { result ≡ (if numbers_wrong size (view item.now) then None else Some (numbers size (view item.now))) }
 {
-    let min = whole_told(item, "min_value", u64::MAX, Some(0))?;
-    let max = whole_told(item, "max_value", u64::MAX, Some(greatest_of(size)))?;
-    let init = whole_told(item, "init_value", u64::MAX, Some(min))?;
-    let step = whole_told(item, "step", u64::MAX, Some(1))?;
+    let min = whole_field(item, "min_value", u64::MAX, Some(0))?;
+    let max = whole_field(item, "max_value", u64::MAX, Some(greatest_of(size)))?;
+    let init = whole_field(item, "init_value", u64::MAX, Some(min))?;
+    let step = whole_field(item, "step", u64::MAX, Some(1))?;
     Some(Numbers {
         min,
         max,
@@ -99,9 +106,10 @@ fn flow_var(name: Name, values: Option<Vec<u64>>, item: &Value) -> Option<RawIns
         ≡ (if flow_var_wrong (view item.now) then None else Some (flow_var name (option_map (λ v. v.items) values) (view item.now))) }
     ensures range { IfSome result (λ instr. IsRawInstr (instruction instr)) }
 {
-    let size = size_told(item, "size")?;
-    let op = op_told(item, "op")?;
-    let numbers = numbers_told(size, item)?;
+    let size = size_field(item, "size")?;
+    let op = op_field(item, "op")?;
+    let numbers = numbers_of(size, item)?;
+    let restart = restart_field(item)?;
     Some(match values {
         None => RawInstr::FlowVar {
             name,
@@ -111,6 +119,7 @@ fn flow_var(name: Name, values: Option<Vec<u64>>, item: &Value) -> Option<RawIns
             min: numbers.min,
             max: numbers.max,
             step: numbers.step,
+            restart,
         },
         Some(values) => RawInstr::ListVar {
             name,
@@ -118,6 +127,7 @@ fn flow_var(name: Name, values: Option<Vec<u64>>, item: &Value) -> Option<RawIns
             op,
             step: numbers.step,
             values,
+            restart,
         },
     })
 }
@@ -129,11 +139,12 @@ fn rand_limit(name: Name, seed: u64, item: &Value) -> Option<RawInstr>
         ≡ (if rand_limit_wrong seed (view item.now) then None else Some (rand_limit name seed (view item.now))) }
     ensures range { IfSome result (λ instr. IsRawInstr (instruction instr)) }
 {
-    let size = size_told(item, "size")?;
-    let min = whole_told(item, "min_value", u64::MAX, Some(0))?;
-    let max = whole_told(item, "max_value", u64::MAX, Some(greatest_of(size)))?;
-    let limit = whole_told(item, "limit", u64::MAX, None)?;
-    let seed = whole_told(item, "seed", u64::MAX, Some(seed))?;
+    let size = size_field(item, "size")?;
+    let min = whole_field(item, "min_value", u64::MAX, Some(0))?;
+    let max = whole_field(item, "max_value", u64::MAX, Some(greatest_of(size)))?;
+    let limit = whole_field(item, "limit", u64::MAX, None)?;
+    let seed = whole_field(item, "seed", u64::MAX, Some(seed))?;
+    let restart = restart_field(item)?;
     Some(RawInstr::RandLimit {
         name,
         size,
@@ -141,6 +152,7 @@ fn rand_limit(name: Name, seed: u64, item: &Value) -> Option<RawInstr>
         max,
         limit,
         seed,
+        restart,
     })
 }
 
@@ -150,11 +162,12 @@ fn tuple(name: Name, item: &Value) -> Option<RawInstr>
     ensures value { option_map instruction result ≡ (if tuple_wrong (view item.now) then None else Some (tuple name (view item.now))) }
     ensures range { IfSome result (λ instr. IsRawInstr (instruction instr)) }
 {
-    let ip_min = whole_told(item, "ip_min", 4_294_967_295, None)?;
-    let ip_max = whole_told(item, "ip_max", 4_294_967_295, None)?;
-    let port_min = whole_told(item, "port_min", 65_535, None)?;
-    let port_max = whole_told(item, "port_max", 65_535, None)?;
-    let limit = whole_told(item, "limit_flows", 4_294_967_295, Some(0))?;
+    let ip_min = whole_field(item, "ip_min", 4_294_967_295, None)?;
+    let ip_max = whole_field(item, "ip_max", 4_294_967_295, None)?;
+    let port_min = whole_field(item, "port_min", 65_535, None)?;
+    let port_max = whole_field(item, "port_max", 65_535, None)?;
+    let limit = whole_field(item, "limit_flows", 4_294_967_295, Some(0))?;
+    let restart = restart_field(item)?;
     Some(RawInstr::Tuple {
         name,
         ip_min: ip_min as u32,
@@ -162,6 +175,7 @@ fn tuple(name: Name, item: &Value) -> Option<RawInstr>
         port_min: port_min as u16,
         port_max: port_max as u16,
         limit: limit as u32,
+        restart,
     })
 }
 
@@ -171,8 +185,8 @@ fn write(name: Name, place: RawPlace, item: &Value) -> Option<RawInstr>
     ensures value { option_map instruction result ≡ (if write_wrong (view item.now) then None else Some (write name place (view item.now))) }
     ensures range { IfSome result (λ instr. IsRawInstr (instruction instr)) }
 {
-    let add = signed_told(item, "add_value")?;
-    let big = bool_told(item, "is_big_endian", true)?;
+    let add = signed_field(item, "add_value")?;
+    let big = bool_field(item, "is_big_endian", true)?;
     Some(RawInstr::Write {
         name,
         place,
@@ -188,11 +202,11 @@ fn write_mask(name: Name, place: RawPlace, item: &Value) -> Option<RawInstr>
         ≡ (if write_mask_wrong (view item.now) then None else Some (write_mask name place (view item.now))) }
     ensures range { IfSome result (λ instr. IsRawInstr (instruction instr)) }
 {
-    let add = signed_told(item, "add_value")?;
-    let big = bool_told(item, "is_big_endian", true)?;
-    let cast = size_told(item, "pkt_cast_size")?;
-    let mask = whole_told(item, "mask", u64::MAX, None)?;
-    let shift = shift_told(item, "shift")?;
+    let add = signed_field(item, "add_value")?;
+    let big = bool_field(item, "is_big_endian", true)?;
+    let cast = size_field(item, "pkt_cast_size")?;
+    let mask = whole_field(item, "mask", u64::MAX, None)?;
+    let shift = shift_field(item, "shift")?;
     Some(RawInstr::WriteMask {
         name,
         place,
@@ -210,18 +224,18 @@ fn fix_hw(item: &Value) -> Option<RawInstr>
     ensures value { option_map instruction result ≡ (if fix_hw_wrong (view item.now) then None else Some (fix_hw (view item.now))) }
     ensures range { IfSome result (λ instr. IsRawInstr (instruction instr)) }
 {
-    let l2 = whole_told(item, "l2_len", u64::MAX, None)?;
-    let l3 = whole_told(item, "l3_len", u64::MAX, None)?;
-    let l4 = segment_told(item, "l4_type")?;
+    let l2 = whole_field(item, "l2_len", u64::MAX, None)?;
+    let l3 = whole_field(item, "l3_len", u64::MAX, None)?;
+    let l4 = l4_code_field(item, "l4_type")?;
     Some(RawInstr::FixHw { l2, l3, l4 })
 }
 
 /// The fix of an IPv4 header.
 fn fix_ipv4(item: &Value) -> Option<RawInstr>
-    ensures value { option_map instruction result ≡ option_map FixIpv4 (told row.fix_offset (view item.now)) }
+    ensures value { option_map instruction result ≡ option_map FixIpv4 (row_value row.fix_offset (view item.now)) }
     ensures range { IfSome result (λ instr. IsRawInstr (instruction instr)) }
 {
-    let at = whole_told(item, "pkt_offset", u64::MAX, None)?;
+    let at = whole_field(item, "pkt_offset", u64::MAX, None)?;
     Some(RawInstr::FixIpv4 { at })
 }
 
@@ -232,30 +246,30 @@ fn instr_by(
     word: InstrWord,
     item: &Value,
 ) -> Result<Option<RawInstr>, Memory>
-    ensures value { IfOk result (λ told. option_map instruction told
+    ensures value { IfOk result (λ read. option_map instruction read
         ≡ (if operands_wrong seed word (view item.now) then None else Some (instruction_by seed word (view item.now)))) }
-    ensures range { IfOk result (λ told. IfSome told (λ instr. IsRawInstr (instruction instr))) }
+    ensures range { IfOk result (λ read. IfSome read (λ instr. IsRawInstr (instruction instr))) }
 {
     match word {
         InstrWord::FixIpv4 => return Ok(fix_ipv4(item)),
         InstrWord::FixHw => return Ok(fix_hw(item)),
         _ => {}
     }
-    let Some(name) = name_told(alloc, item)? else {
+    let Some(name) = name_field(alloc, item)? else {
         return Ok(None);
     };
     Ok(match word {
-        InstrWord::FlowVar => match values_told(alloc, item, "value_list")? {
+        InstrWord::FlowVar => match values_field(alloc, item, "value_list")? {
             Some(values) => flow_var(name, values, item),
             None => None,
         },
         InstrWord::RandLimit => rand_limit(name, seed, item),
         InstrWord::Tuple => tuple(name, item),
-        InstrWord::Write => match place_told(alloc, item)? {
+        InstrWord::Write => match place_field(alloc, item)? {
             Some(place) => write(name, place, item),
             None => None,
         },
-        InstrWord::WriteMask => match place_told(alloc, item)? {
+        InstrWord::WriteMask => match place_field(alloc, item)? {
             Some(place) => write_mask(name, place, item),
             None => None,
         },
@@ -270,7 +284,7 @@ fn instr_of(alloc: Global, seed: u64, place: u32, item: &Value) -> Result<RawIns
     ensures range { IfOk result (λ instr. IsRawInstr (instruction instr)) }
 {
     let item = an_object(item).ok_or(StreamFault::at_place(place, Rule::BadInstruction))?;
-    let word = instr_told(item, "type").ok_or(StreamFault::at_place(place, Rule::BadInstruction))?;
+    let word = instr_field(item, "type").ok_or(StreamFault::at_place(place, Rule::BadInstruction))?;
     instr_by(alloc, seed, word, item)?.ok_or(StreamFault::at_place(place, Rule::BadOperand))
 }
 

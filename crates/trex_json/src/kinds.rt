@@ -1,12 +1,15 @@
+// The kinds of values that a profile's names have.
+
 ghost use Rattle.std.specs.Prelude.{◌≡◌, ◌⊎◌, ◌≤◌, ◌<◌, ◌^◌, pos, negsuc, ◌≤ℤ◌, IfSome, option_map, map};
 ghost use Rattle.std.specs.Option.{ForSome};
 ghost use Rattle.serde_json.specs.View.{view};
 ghost use Rattle.trex_fields.specs.Bytes.{IsSize};
-ghost use Rattle.trex_json.specs.Kinds.{an_object, an_array, whole, scaled, decimal, id_of, next_id, mode_word, rate_kind, latency_word, a_size, a_segment, a_signed, shift_of, a_shift, an_op, instr_word, layer_word, a_mac, an_address};
+ghost use Rattle.trex_json.specs.Kinds.{an_object, an_array, whole, scaled, decimal, id_of, next_id, mode_word, rate_kind, latency_word, a_version, a_size, l4_code, a_signed, shift_of, a_shift, an_op, instr_word, layer_word, a_mac, an_address};
 
 use crate::addresses::{address_of, mac_of};
 use serde_json::Value;
 use trex_profile::RateKind;
+use trex_stamp::Version;
 use trex_vars::Op;
 
 /// The word of a mode.
@@ -148,6 +151,17 @@ pub(crate) fn latency_word(value: &Value) -> Option<&str>
     if word == "latency" { Some(word) } else { None }
 }
 
+/// The version of a latency header: 1 or 2.
+pub(crate) fn a_version(value: &Value) -> Option<Version>
+    ensures { result ≡ a_version (view value.now) }
+{
+    match whole(value, 2)? {
+        1 => Some(Version::One),
+        2 => Some(Version::Two),
+        _ => None,
+    }
+}
+
 /// A number of bytes in which a number is held: 1, 2, 4 or 8.
 pub(crate) fn a_size(value: &Value) -> Option<u8>
     ensures value { result ≡ a_size (view value.now) }
@@ -162,8 +176,8 @@ pub(crate) fn a_size(value: &Value) -> Option<u8>
 }
 
 /// What stands behind an IPv4 header: 11, 13 or 17.
-pub(crate) fn a_segment(value: &Value) -> Option<u8>
-    ensures value { result ≡ a_segment (view value.now) }
+pub(crate) fn l4_code(value: &Value) -> Option<u8>
+    ensures value { result ≡ l4_code (view value.now) }
     ensures within { IfSome result (λ n. (n ≡ 11) ⊎ ((n ≡ 13) ⊎ (n ≡ 17))) }
 {
     let n = whole(value, 17)?;
@@ -244,7 +258,7 @@ pub(crate) fn layer_word(value: &Value) -> Option<LayerWord>
     }
 }
 
-/// The address of a station.
+/// A MAC address.
 pub(crate) fn a_mac(value: &Value) -> Option<[u8; 6]>
     ensures { result ≡ a_mac (view value.now) }
 {

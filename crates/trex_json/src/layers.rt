@@ -8,9 +8,9 @@ ghost use Rattle.trex_profile.specs.Answer.{Gives};
 ghost use Rattle.trex_profile.specs.Order.{first_each, unless};
 ghost use Rattle.trex_json.specs.Layers.{build_rules, ethernet_wrong, ipv4, ipv4_wrong, layer_by, layer_of, layer_rule, layer_wrong, layers_of, layers_rules, names_wrong, tcp, tcp_wrong, template_of, template_rules, udp_wrong, vlan_wrong};
 
-use crate::binary::bytes_told;
+use crate::binary::bytes_field;
 use crate::kinds::{LayerWord, an_object};
-use crate::names::{address_told, array_told, layer_told, mac_told, under, whole_told};
+use crate::names::{address_field, array_field, layer_field, mac_field, under, whole_field};
 use serde_json::Value;
 use std::alloc::Global;
 use trex_build::{BuildFault, LayerSpec, build};
@@ -33,9 +33,9 @@ fn ethernet(item: &Value) -> Option<LayerSpec>
     ensures { option_map layer result
         ≡ (if ethernet_wrong (view item.now) then None else Some (layer_by LayerWord.Ethernet (view item.now))) }
 {
-    let dst = mac_told(item, "dst")?;
-    let src = mac_told(item, "src")?;
-    let etype = whole_told(item, "etype", GREATEST_WORD, Some(LOCAL_TYPE))? as u16;
+    let dst = mac_field(item, "dst")?;
+    let src = mac_field(item, "src")?;
+    let etype = whole_field(item, "etype", GREATEST_WORD, Some(LOCAL_TYPE))? as u16;
     Some(LayerSpec::Ethernet { dst, src, etype })
 }
 
@@ -45,8 +45,8 @@ fn vlan(item: &Value) -> Option<LayerSpec>
     ensures { option_map layer result
         ≡ (if vlan_wrong (view item.now) then None else Some (layer_by LayerWord.Vlan (view item.now))) }
 {
-    let tci = whole_told(item, "tci", GREATEST_WORD, None)? as u16;
-    let etype = whole_told(item, "etype", GREATEST_WORD, Some(LOCAL_TYPE))? as u16;
+    let tci = whole_field(item, "tci", GREATEST_WORD, None)? as u16;
+    let etype = whole_field(item, "etype", GREATEST_WORD, Some(LOCAL_TYPE))? as u16;
     Some(LayerSpec::Vlan { tci, etype })
 }
 
@@ -55,13 +55,13 @@ fn vlan(item: &Value) -> Option<LayerSpec>
 fn ipv4(item: &Value) -> Option<LayerSpec>
     ensures { option_map layer result ≡ (if ipv4_wrong (view item.now) then None else Some (ipv4 (view item.now))) }
 {
-    let tos = whole_told(item, "tos", 255, Some(0))? as u8;
-    let id = whole_told(item, "id", GREATEST_WORD, Some(0))? as u16;
-    let frag = whole_told(item, "frag", GREATEST_WORD, Some(0))? as u16;
-    let ttl = whole_told(item, "ttl", 255, Some(64))? as u8;
-    let proto = whole_told(item, "proto", 255, Some(EXPERIMENT))? as u8;
-    let src = address_told(item, "src")?;
-    let dst = address_told(item, "dst")?;
+    let tos = whole_field(item, "tos", 255, Some(0))? as u8;
+    let id = whole_field(item, "id", GREATEST_WORD, Some(0))? as u16;
+    let frag = whole_field(item, "frag", GREATEST_WORD, Some(0))? as u16;
+    let ttl = whole_field(item, "ttl", 255, Some(64))? as u8;
+    let proto = whole_field(item, "proto", 255, Some(EXPERIMENT))? as u8;
+    let src = address_field(item, "src")?;
+    let dst = address_field(item, "dst")?;
     Some(LayerSpec::Ipv4 {
         tos,
         id,
@@ -78,12 +78,12 @@ fn ipv4(item: &Value) -> Option<LayerSpec>
 fn tcp(item: &Value) -> Option<LayerSpec>
     ensures { option_map layer result ≡ (if tcp_wrong (view item.now) then None else Some (tcp (view item.now))) }
 {
-    let sport = whole_told(item, "sport", GREATEST_WORD, None)? as u16;
-    let dport = whole_told(item, "dport", GREATEST_WORD, None)? as u16;
-    let seq = whole_told(item, "seq", GREATEST_DOUBLE, Some(0))? as u32;
-    let ack = whole_told(item, "ack", GREATEST_DOUBLE, Some(0))? as u32;
-    let flags = whole_told(item, "flags", 255, Some(2))? as u8;
-    let window = whole_told(item, "window", GREATEST_WORD, Some(8192))? as u16;
+    let sport = whole_field(item, "sport", GREATEST_WORD, None)? as u16;
+    let dport = whole_field(item, "dport", GREATEST_WORD, None)? as u16;
+    let seq = whole_field(item, "seq", GREATEST_DOUBLE, Some(0))? as u32;
+    let ack = whole_field(item, "ack", GREATEST_DOUBLE, Some(0))? as u32;
+    let flags = whole_field(item, "flags", 255, Some(2))? as u8;
+    let window = whole_field(item, "window", GREATEST_WORD, Some(8192))? as u16;
     Some(LayerSpec::Tcp {
         sport,
         dport,
@@ -99,14 +99,14 @@ fn tcp(item: &Value) -> Option<LayerSpec>
 fn udp(item: &Value) -> Option<LayerSpec>
     ensures { option_map layer result ≡ (if udp_wrong (view item.now) then None else Some (layer_by LayerWord.Udp (view item.now))) }
 {
-    let sport = whole_told(item, "sport", GREATEST_WORD, None)? as u16;
-    let dport = whole_told(item, "dport", GREATEST_WORD, None)? as u16;
+    let sport = whole_field(item, "sport", GREATEST_WORD, None)? as u16;
+    let dport = whole_field(item, "dport", GREATEST_WORD, None)? as u16;
     Some(LayerSpec::Udp { sport, dport })
 }
 
 /// A layer of that word, where its names are there and of their kinds.
 fn layer_by(alloc: Global, word: LayerWord, item: &Value) -> Result<Option<LayerSpec>, Memory>
-    ensures { IfOk result (λ told. option_map layer told ≡ (if names_wrong word (view item.now) then None else Some (layer_by word (view item.now)))) }
+    ensures { IfOk result (λ read. option_map layer read ≡ (if names_wrong word (view item.now) then None else Some (layer_by word (view item.now)))) }
 {
     Ok(match word {
         LayerWord::Ethernet => ethernet(item),
@@ -114,7 +114,7 @@ fn layer_by(alloc: Global, word: LayerWord, item: &Value) -> Result<Option<Layer
         LayerWord::Ipv4 => ipv4(item),
         LayerWord::Tcp => tcp(item),
         LayerWord::Udp => udp(item),
-        LayerWord::Raw => match bytes_told(alloc, item, "binary")? {
+        LayerWord::Raw => match bytes_field(alloc, item, "binary")? {
             Some(bytes) => Some(LayerSpec::Raw { bytes }),
             None => None,
         },
@@ -124,18 +124,18 @@ fn layer_by(alloc: Global, word: LayerWord, item: &Value) -> Result<Option<Layer
 /// A layer, where it is one.
 #[tactic(auto, unfolding(crate::specs::Layers::layer_wrong))]
 fn layer_of(alloc: Global, item: &Value) -> Result<Option<LayerSpec>, Memory>
-    ensures { IfOk result (λ told. option_map layer told ≡ (if layer_wrong (view item.now) then None else Some (layer_of (view item.now)))) }
+    ensures { IfOk result (λ read. option_map layer read ≡ (if layer_wrong (view item.now) then None else Some (layer_of (view item.now)))) }
 {
     let Some(item) = an_object(item) else {
         return Ok(None);
     };
-    match layer_told(item, "type") {
+    match layer_field(item, "type") {
         Some(word) => layer_by(alloc, word, item),
         None => Ok(None),
     }
 }
 
-/// The layers of a packet, in order. A place that doesn't fit 32 bits, which no text that is read has, counts as want of memory.
+/// The layers of a packet, in order. A place that doesn't fit 32 bits, which no text that is read has, counts as out of memory.
 fn each_layer(alloc: Global, items: &[Value]) -> Result<Vec<LayerSpec>, StreamFault>
     ensures { Gives (λ layers. map layer layers.items) result
         (unless (first_each layer_rule 0 (map view items.now)) (map layer_of (map view items.now))) }
@@ -173,7 +173,7 @@ fn built(alloc: Global, layers: &[LayerSpec]) -> Result<Vec<u8>, StreamFault>
 fn layered(alloc: Global, packet: &Value) -> Result<Vec<u8>, StreamFault>
     ensures { Gives (λ packet. packet.items) result (unless (layers_rules (view packet.now)) (built (layers_of (view packet.now)))) }
 {
-    let items = array_told(packet, "layers").ok_or(StreamFault::of_stream(Rule::BadLayer))?;
+    let items = array_field(packet, "layers").ok_or(StreamFault::of_stream(Rule::BadLayer))?;
     let layers = each_layer(alloc, items)?;
     built(alloc, &layers)
 }
@@ -186,6 +186,6 @@ pub(crate) fn template_of(alloc: Global, packet: &Value) -> Result<Vec<u8>, Stre
     if under(packet, "binary").is_none() {
         return layered(alloc, packet);
     }
-    let bytes = bytes_told(alloc, packet, "binary")?;
+    let bytes = bytes_field(alloc, packet, "binary")?;
     bytes.ok_or(StreamFault::of_stream(Rule::BadBinary))
 }

@@ -5,7 +5,7 @@ mod addresses;
 mod binary;
 mod entry;
 mod entry_id;
-mod fault;
+mod flow;
 mod instr;
 mod kinds;
 mod layers;
@@ -16,6 +16,5 @@ mod reading;
 mod stream;
 
 pub use entry_id::read_entry_id;
-pub use fault::ProfileFault;
 pub use order::shape_rules_in_order;
-pub use reading::{LONGEST_TEXT, read_profile};
+pub use reading::{LONGEST_TEXT, ProfileFault, read_profile};

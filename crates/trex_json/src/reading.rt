@@ -1,22 +1,26 @@
+// A profile from its text: its JSON reading, the rules on shapes, then those on values.
+
 ghost use Rattle.std.specs.Prelude.{◌≡◌, IfOk, map, option_map};
 ghost use Rattle.serde_json.specs.View.{view};
 ghost use Rattle.trex_profile.specs.Admission.{IsRawProfile};
+ghost use Rattle.trex_profile.specs.Answer.{Gives};
 ghost use Rattle.trex_profile.specs.Order.{unless};
 ghost use Rattle.trex_profile.specs.Refusal.{of_document};
 ghost use Rattle.trex_profile.specs.Stream.{raw_stream};
-ghost use Rattle.trex_json.specs.Answer.{Reads};
 ghost use Rattle.trex_json.specs.Json.{value_of, json_of};
 ghost use Rattle.trex_json.specs.Shape.{entry_stream};
-ghost use Rattle.trex_json.specs.Verdict.{entries_refusal, shape_of, verdict, Answers};
+ghost use Rattle.trex_json.specs.Verdict.{entries_refusal, shape_of, verdict};
 
 use crate::entry::each_entry;
-use crate::fault::ProfileFault;
 use crate::kinds::an_array;
 use serde_json::Value;
 use std::alloc::Global;
 use trex_decimal::quote_numbers;
 use trex_io::Memory;
-use trex_profile::{Profile, RawProfile, Refusal, Rule, admit};
+use trex_profile::{Fault, Profile, RawProfile, Refusal, Rule, admit};
+
+/// Why a text gives no profile: the first rule that it breaks, or no memory.
+pub type ProfileFault = Fault<Refusal>;
 
 /// The greatest number of bytes of a profile's text.
 pub const LONGEST_TEXT: usize = 33_554_432;
@@ -44,14 +48,14 @@ pub(crate) fn read_json(alloc: Global, text: &[u8]) -> Result<Option<Value>, Mem
 
 /// A rule about the document is broken.
 fn refused(rule: Rule) -> ProfileFault
-    ensures { result ≡ ProfileFault.Refused (of_document rule) }
+    ensures { result ≡ Fault.Refused (of_document rule) }
 {
-    ProfileFault::Refused(Refusal::of_document(rule))
+    Fault::Refused(Refusal::of_document(rule))
 }
 
 /// The streams of a document's entries.
 fn entries_of(alloc: Global, entries: &[Value]) -> Result<RawProfile, ProfileFault>
-    ensures value { Reads (λ raw. map raw_stream raw.streams.items) result
+    ensures value { Gives (λ raw. map raw_stream raw.streams.items) result
         (unless (entries_refusal (map view entries.now)) (map entry_stream (map view entries.now))) }
     ensures ranges { IfOk result IsRawProfile }
 {
@@ -65,7 +69,7 @@ fn entries_of(alloc: Global, entries: &[Value]) -> Result<RawProfile, ProfileFau
 /// What a text says, before its values are looked at.
 #[tactic(auto, unfolding(crate::specs::Verdict::text_refusal))]
 fn raw_profile(alloc: Global, text: &[u8]) -> Result<RawProfile, ProfileFault>
-    ensures value { Reads (λ raw. map raw_stream raw.streams.items) result (shape_of text.now) }
+    ensures value { Gives (λ raw. map raw_stream raw.streams.items) result (shape_of text.now) }
     ensures ranges { IfOk result IsRawProfile }
 {
     if text.len() > LONGEST_TEXT {
@@ -76,10 +80,10 @@ fn raw_profile(alloc: Global, text: &[u8]) -> Result<RawProfile, ProfileFault>
     entries_of(alloc, entries)
 }
 
-/// Reads a profile's text. The first rule that it breaks is the refusal; want of memory alone comes freely.
+/// Reads a profile's text. The first rule that it breaks is the refusal; out of memory is the one answer without a cause.
 pub fn read_profile(alloc: Global, text: &[u8]) -> Result<Profile, ProfileFault>
-    ensures { Answers result (verdict text.now) }
+    ensures { Gives (λ streams. streams) result (verdict text.now) }
 {
     let raw = raw_profile(alloc, text)?;
-    Ok(admit(alloc, raw)?)
+    admit(alloc, raw)
 }

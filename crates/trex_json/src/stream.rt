@@ -1,22 +1,26 @@
-ghost use Rattle.std.specs.Prelude.{◌≡◌, ℕ, ◌≤◌, ◌^◌, List, length, map, All, Option, None, Some, IfOk, option_map, if◌then◌else◌};
+// A stream from its object.
+
+ghost use Rattle.std.specs.Prelude.{◌≡◌, ◌≤◌, ◌^◌, List, length, map, All, Option, None, Some, IfOk, option_map, if◌then◌else◌};
 ghost use Rattle.std.specs.Option.{ForSome};
 ghost use Rattle.serde_json.specs.View.{view};
 ghost use Rattle.trex_profile.specs.Instruction.{Instruction, instruction, IsRawInstr};
 ghost use Rattle.trex_profile.specs.Order.{unless};
+ghost use Rattle.trex_profile.specs.Flow.{IsFlow};
 ghost use Rattle.trex_profile.specs.Stream.{raw_stream, IsRawStream};
 ghost use Rattle.trex_profile.specs.Answer.{Gives};
 ghost use Rattle.trex_json.specs.Names.{value};
 ghost use Rattle.trex_json.specs.Rows as row;
-ghost use Rattle.trex_json.specs.Shape.{field_rules, fields, packet_wrong, items, flow_wrong, flow_of, vm_wrong, instrs_of, work_rules, stream_rules, stream_of};
+ghost use Rattle.trex_json.specs.Shape.{field_rules, fields, packet_wrong, items, flow_wrong, flow_of, vm_wrong, instrs_of, effect_rules, stream_rules, stream_of};
 
+use crate::flow::flow_of;
 use crate::instr::each_instr;
 use crate::kinds::{an_array, an_object};
 use crate::layers::template_of;
 use crate::mode::mode_of;
-use crate::names::{bool_told, gap_told, latency_told, next_told, object_told, under, whole_told};
+use crate::names::{bool_field, gap_field, next_field, object_field, under, whole_field};
 use serde_json::Value;
 use std::alloc::Global;
-use trex_profile::{RawInstr, RawStream, Rule, StreamFault};
+use trex_profile::{Flow, RawInstr, RawStream, Rule, StreamFault};
 
 /// The greatest gap, in nanoseconds.
 const LONGEST_GAP: u64 = 1_000_000_000_000_000_000;
@@ -42,18 +46,18 @@ fn fields_of(stream: &Value) -> Result<Fields, StreamFault>
     ensures gap { IfOk result (λ f. f.isg ≤ 10 ^ 18) }
     ensures next { IfOk result (λ f. ForSome f.next (λ id. id ≤ 2147483647)) }
 {
-    let enabled = bool_told(stream, "enabled", true).ok_or(StreamFault::of_stream(
+    let enabled = bool_field(stream, "enabled", true).ok_or(StreamFault::of_stream(
         Rule::BadEnabled,
     ))?;
-    let self_start = bool_told(stream, "self_start", true).ok_or(StreamFault::of_stream(
+    let self_start = bool_field(stream, "self_start", true).ok_or(StreamFault::of_stream(
         Rule::BadSelfStart,
     ))?;
-    let isg = gap_told(stream, "isg", LONGEST_GAP).ok_or(StreamFault::of_stream(Rule::BadIsg))?;
-    let next = next_told(stream, "next_stream_id").ok_or(StreamFault::of_stream(Rule::BadNext))?;
-    let action_count = whole_told(stream, "action_count", 4_294_967_295, Some(0)).ok_or(
+    let isg = gap_field(stream, "isg", LONGEST_GAP).ok_or(StreamFault::of_stream(Rule::BadIsg))?;
+    let next = next_field(stream, "next_stream_id").ok_or(StreamFault::of_stream(Rule::BadNext))?;
+    let action_count = whole_field(stream, "action_count", 4_294_967_295, Some(0)).ok_or(
         StreamFault::of_stream(Rule::BadActionCount),
     )?;
-    let seed = whole_told(stream, "random_seed", u64::MAX, Some(0)).ok_or(StreamFault::of_stream(
+    let seed = whole_field(stream, "random_seed", u64::MAX, Some(0)).ok_or(StreamFault::of_stream(
         Rule::BadSeed,
     ))?;
     Ok(Fields {
@@ -72,7 +76,7 @@ fn packet_of(stream: &Value) -> Option<&Value>
     ensures value { option_map (λ packet. view packet.now) result
         ≡ (if packet_wrong (view stream.now) then None else Some (value row.packet (view stream.now))) }
 {
-    let packet = object_told(stream, "packet")?;
+    let packet = object_field(stream, "packet")?;
     if under(packet, "binary").is_some() || under(packet, "layers").is_some() {
         Some(packet)
     } else {
@@ -95,37 +99,21 @@ fn items_of(stream: &Value) -> Option<&[Value]>
     }
 }
 
-/// The flow number of a stream, where its flow is of its kind: none where it has no flow.
-#[tactic(auto, unfolding(crate::specs::Shape::flow_wrong))]
-fn flow_of(stream: &Value) -> Option<Option<u16>>
-    ensures { result ≡ (if flow_wrong (view stream.now) then None else Some (flow_of (view stream.now))) }
-{
-    let Some(flow) = under(stream, "flow_stats") else {
-        return Some(None);
-    };
-    let flow = an_object(flow)?;
-    if !bool_told(flow, "enabled", false)? {
-        return Some(None);
-    }
-    let _latency = latency_told(flow, "rule_type")?;
-    let number = whole_told(flow, "stream_id", 65_535, None)?;
-    Some(Some(number as u16))
-}
-
 /// What a stream does beside sending its template.
 #[derive(Drop)]
-struct Work {
-    flow: Option<u16>,
+struct Effects {
+    flow: Option<Flow>,
     instrs: Vec<RawInstr>,
 }
 
 /// The flow and the instructions of a stream.
-#[tactic(auto, unfolding(crate::specs::Shape::work_rules))]
-fn work_of(alloc: Global, seed: u64, stream: &Value) -> Result<Work, StreamFault>
-    ensures value { Gives {Y = Option ℕ × List Instruction} (λ work. (work.flow, map instruction work.instrs.items)) result
-        (unless (work_rules seed (view stream.now)) (flow_of (view stream.now), instrs_of seed (view stream.now))) }
-    ensures few { IfOk result (λ work. length work.instrs.items ≤ 256) }
-    ensures ranges { IfOk result (λ work. All IsRawInstr (map instruction work.instrs.items)) }
+#[tactic(auto, unfolding(crate::specs::Shape::effect_rules))]
+fn effects_of(alloc: Global, seed: u64, stream: &Value) -> Result<Effects, StreamFault>
+    ensures value { Gives {Y = Option Flow × List Instruction} (λ effects. (effects.flow, map instruction effects.instrs.items)) result
+        (unless (effect_rules seed (view stream.now)) (flow_of (view stream.now), instrs_of seed (view stream.now))) }
+    ensures flow { IfOk result (λ effects. ForSome effects.flow IsFlow) }
+    ensures few { IfOk result (λ effects. length effects.instrs.items ≤ 256) }
+    ensures ranges { IfOk result (λ effects. All IsRawInstr (map instruction effects.instrs.items)) }
 {
     let flow = flow_of(stream).ok_or(StreamFault::of_stream(Rule::BadFlowStats))?;
     let items = items_of(stream).ok_or(StreamFault::of_stream(Rule::BadVm))?;
@@ -133,7 +121,7 @@ fn work_of(alloc: Global, seed: u64, stream: &Value) -> Result<Work, StreamFault
         return Err(StreamFault::of_stream(Rule::TooManyInstructions));
     }
     let instrs = each_instr(alloc, seed, items)?;
-    Ok(Work { flow, instrs })
+    Ok(Effects { flow, instrs })
 }
 
 /// The stream of that id, its defaults filled in.
@@ -147,7 +135,7 @@ pub(crate) fn stream_of(alloc: Global, id: u32, stream: &Value) -> Result<RawStr
     let packet = packet_of(stream).ok_or(StreamFault::of_stream(Rule::BadPacket))?;
     let template = template_of(alloc, packet)?;
     let (rate, mode) = mode_of(stream)?;
-    let work = work_of(alloc, fields.seed, stream)?;
+    let effects = effects_of(alloc, fields.seed, stream)?;
     Ok(RawStream {
         id,
         enabled: fields.enabled,
@@ -159,7 +147,7 @@ pub(crate) fn stream_of(alloc: Global, id: u32, stream: &Value) -> Result<RawStr
         template,
         rate,
         mode,
-        flow: work.flow,
-        instrs: work.instrs,
+        flow: effects.flow,
+        instrs: effects.instrs,
     })
 }

@@ -1,4 +1,4 @@
-// The headers that a packet's bytes hold, and where each begins.
+//! The headers that a packet's bytes hold, and where each begins.
 #![tactic(auto)]
 
 mod constants;

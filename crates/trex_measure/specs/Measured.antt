@@ -36,7 +36,7 @@ IsSound text (Bad e) = IsOfCapture e × HasFault text e
 IsSound text Memory = Unit {0}
 
 -- The answers for a capture of these records and this fault, where what is kept stands for records: what stands for the records,
--- where there is no fault; the fault, where there is one; or a failed read or want of memory.
+-- where there is no fault; the fault, where there is one; or a failed read, or out of memory.
 abbrev pub AnswersBy : {K : Type 0} → (K → List Seen → Type 0) → Result K MeasureFault → List Seen → Option CaptureFault → Type 0
 AnswersBy stands (Ok k) rs None = stands k rs
 AnswersBy stands (Ok k) rs (Some e) = ⊥

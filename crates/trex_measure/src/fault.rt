@@ -1,3 +1,5 @@
+// Why a capture wasn't measured.
+
 ghost use Rattle.std.specs.Prelude.{◌≡◌};
 ghost use Rattle.trex_measure.specs.Measured.{measure_fault};
 
@@ -10,7 +12,7 @@ pub enum MeasureFault {
     Read,
     /// The capture has a fault, which is never `Fault`.
     Bad(CaptureFault),
-    /// Want of memory.
+    /// Out of memory.
     Memory,
 }
 

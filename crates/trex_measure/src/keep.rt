@@ -18,7 +18,7 @@ pub trait Keep: Drop {
     /// What else the keeper knows, which `take` keeps.
     ghost mark: { Self → List ℕ };
 
-    /// Keeps one more record, of this time in ns, these captured bytes and this original length. After want of memory nothing is
+    /// Keeps one more record, of this time in ns, these captured bytes and this original length. Out of memory, nothing is
     /// promised of the keeper.
     fn take(&mut self, time: u64, bytes: &[u8], original: u32) -> Result<(), Memory>
         requires few { kept self.old < 100000000 }

@@ -1,4 +1,4 @@
-// A capture that is read to its end, record by record, into what keeps the records, as the counts of them.
+//! A capture that is read to its end, record by record, into what keeps the records, as the counts of them.
 #![tactic(auto)]
 
 mod fault;

@@ -1,3 +1,5 @@
+// The reading of a capture to its end, record by record.
+
 ghost use Rattle.std.specs.Prelude.{◌≡◌, [], vec_len, OnOk, IfOk, IfErr, IsErrOf};
 ghost use Rattle.std.specs.Io.KnownBytes.{IsAtEnd};
 ghost use Rattle.trex_io.specs.Faults.{Rises};

@@ -1,3 +1,5 @@
+// Captures that come in pieces, that are cut, and that fail.
+
 ghost use Rattle.std.specs.Prelude.{◌≤◌};
 
 use super::*;

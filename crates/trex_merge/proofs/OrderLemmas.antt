@@ -64,13 +64,14 @@ same-ordered key (a ∷ rest) x =
       (λ h. put.1 (elim h [ inl same ↦ inl same | inr later ↦ inr (before.1 later) ])),
     )
 
+-- what holds of each value holds of each in order
+all-ordered : {X : Type 0} (P : X → Type 0) (key : X → Key) (xs : List X) → AllByRecursion P xs → AllByRecursion P (ordered key xs)
+all-ordered P key xs all = all_from P (ordered key xs) (λ x h. all_at P xs x all ((same-ordered key xs x).0 h))
+
 -- the list in order rises
 pub rising-ordered : {X : Type 0} (key : X → Key) (xs : List X) → AreDistinct key xs → IsRising key (ordered key xs)
 rising-ordered key [] distinct = tt
-rising-ordered {X = X} key (a ∷ rest) distinct =
-    let P : X → Type 0 = AreApart key a in
-    rising-placed key a (ordered key rest) (rising-ordered key rest distinct.1)
-    (all_from P (ordered key rest) (λ x h. all_at P rest x distinct.0 ((same-ordered key rest x).0 h)))
+rising-ordered key (a ∷ rest) distinct = rising-placed key a (ordered key rest) (rising-ordered key rest distinct.1) (all-ordered (AreApart key a) key rest distinct.0)
 
 -- values stay distinct where one that is apart from all others is put at its place
 distinct-placed : {X : Type 0} (key : X → Key) (a : X) (xs : List X) → AreDistinct key xs → AllByRecursion (AreApart key a) xs → AreDistinct key (placed key a xs)
@@ -89,10 +90,7 @@ distinct-placed {X = X} key a (b ∷ rest) distinct apart =
 -- the list in order is as distinct
 pub distinct-ordered : {X : Type 0} (key : X → Key) (xs : List X) → AreDistinct key xs → AreDistinct key (ordered key xs)
 distinct-ordered key [] distinct = tt
-distinct-ordered {X = X} key (a ∷ rest) distinct =
-    let P : X → Type 0 = AreApart key a in
-    distinct-placed key a (ordered key rest) (distinct-ordered key rest distinct.1)
-    (all_from P (ordered key rest) (λ x h. all_at P rest x distinct.0 ((same-ordered key rest x).0 h)))
+distinct-ordered key (a ∷ rest) distinct = distinct-placed key a (ordered key rest) (distinct-ordered key rest distinct.1) (all-ordered (AreApart key a) key rest distinct.0)
 
 -- what a rising list has after its first value isn't that value
 past_first : {X : Type 0} (key : X → Key) (a : X) (rest : List X) → IsRising key (a ∷ rest) → Has rest a → ⊥

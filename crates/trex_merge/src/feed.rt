@@ -1,4 +1,4 @@
-// A core's packets, as the merge takes them.
+// What the merge takes packets from: the trait `Feed`.
 
 ghost use Rattle.std.specs.Prelude.{◌≡◌, ℕ, ◌<◌, length, List, slice_get};
 ghost use Rattle.std.specs.Option.{option_map};

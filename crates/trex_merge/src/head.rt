@@ -1,4 +1,4 @@
-// The first packet that waits at a core.
+// A packet that waits first at a core.
 
 ghost use Rattle.trex_merge.specs.declared.key.Key.{Key};
 

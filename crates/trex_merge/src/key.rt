@@ -1,4 +1,4 @@
-// What packets are ordered by.
+// What packets are ordered by, and the order.
 
 ghost use Rattle.std.specs.Prelude.{◌≡◌};
 ghost use Rattle.trex_merge.specs.Order.{is_before as stands_before};
@@ -33,7 +33,7 @@ impl Keyed for Key {
     }
 }
 
-/// A packet comes before another: by time, then by stream, then by number.
+/// Whether a packet comes before another: by time, then by stream, then by number.
 pub fn is_before(a: &Key, b: &Key) -> bool
     ensures { result ≡ stands_before a.now b.now }
 {

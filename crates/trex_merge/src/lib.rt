@@ -1,4 +1,4 @@
-// The order of packets, and the merge of many cores' packets into one sequence.
+//! The order of packets, and the merge of many cores' packets into one sequence.
 #![tactic(auto)]
 
 mod feed;

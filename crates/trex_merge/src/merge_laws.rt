@@ -1,4 +1,4 @@
-// The laws of the merge.
+// The laws of the merge, over all refills and emissions.
 
 ghost use Rattle.std.specs.Prelude.{◌≡◌, ℕ, ◌%◌, ◌<◌, ◌==◌, ◌↔◌, ◌⊎◌, [], List, length, map, slice_get};
 ghost use Rattle.std.specs.List.{AllByRecursion, filter};

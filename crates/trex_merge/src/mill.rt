@@ -1,4 +1,4 @@
-// The merge of many cores' packets into one sequence.
+// The merge: `peek` says which feed's first packet comes next, and `take` sends it.
 
 ghost use Rattle.std.specs.Prelude.{◌≡◌, ℕ, ◌+◌, ◌-◌, ◌≢◌, map, slice_get};
 ghost use Rattle.trex_merge.specs.declared.next.Next.{Next};
@@ -46,9 +46,7 @@ impl Mill {
                     best = Some(earlier(best, place));
                 }
                 None => {
-                    let done = feed.finished();
-                    let owes = !done;
-                    if owes {
+                    if !feed.finished() {
                         return Next::Need { core: at };
                     }
                 }

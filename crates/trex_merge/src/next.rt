@@ -1,4 +1,4 @@
-// What comes next.
+// The answer of the merge to what comes next.
 
 /// What the merge does next.
 #[derive(Clone, Copy, PartialEq, Eq, Debug, Drop)]

@@ -1,4 +1,4 @@
-// The laws of the order.
+// The laws of the order, over any values with a key.
 
 ghost use Rattle.std.specs.Prelude.{◌≡◌, [], ◌∷◌, ℕ, Bool, List, Some, slice_get, slice_set};
 ghost use Rattle.std.specs.List.{AllByRecursion, filter};

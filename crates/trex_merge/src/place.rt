@@ -1,4 +1,4 @@
-// The place of the least packet so far.
+// A feed beside the key of its first packet, and the earlier of two.
 
 ghost use Rattle.std.specs.Prelude.{◌≡◌, Some};
 ghost use Rattle.trex_merge.specs.Heads.{earlier_of};
@@ -12,7 +12,7 @@ pub struct Place {
     pub feed: usize,
 }
 
-// The place that comes first: the best so far, unless one more comes before it.
+/// The place that comes first: the best so far, unless the other one comes before it.
 pub fn earlier(best: Option<Place>, place: Place) -> Place
     ensures { Some result ≡ earlier_of best (Some place) }
 {

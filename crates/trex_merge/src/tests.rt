@@ -8,7 +8,7 @@ use crate::{
     frames_follow, shares_are_all, what_comes_next,
 };
 
-// Packets that wait, and packets that come later.
+/// A feed of packets that wait, and of packets that never come.
 #[derive(Drop)]
 struct Lane<'a> {
     waiting: &'a [Head<'a>],
@@ -33,6 +33,7 @@ impl<'a> Feed for Lane<'a> {
     }
 }
 
+/// A packet of two bytes.
 fn packet(time: u64, stream: u32, number: u64) -> Head<'static> {
     Head {
         time,
@@ -70,7 +71,7 @@ fn packets_of_one_time_go_by_stream_and_then_by_number(rt: HostRuntime) {
             mill.take(&mut lanes, feed);
         }
     }
-    // The limit of three packets, though one more waits.
+    // Three packets are the limit, though one more waits.
     assert_eq!(rt; lanes[0].waiting.len(), 1);
     assert_eq!(rt; mill.peek(&lanes), Next::End);
 }

@@ -10,6 +10,7 @@ mod reader;
 mod record;
 #[cfg(test)]
 mod tests;
+mod unfit;
 mod writing;
 
 pub use fault::CaptureFault;
@@ -17,4 +18,5 @@ pub use format::Format;
 pub use laws::{one_reading, reads_back};
 pub use reader::CaptureReader;
 pub use record::Record;
+pub use unfit::Unfit;
 pub use writing::{header, record_header};

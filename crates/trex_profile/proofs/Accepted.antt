@@ -1,25 +1,22 @@
 -- Where no rule on what a stream's instructions do is broken, its program is accepted.
-use Rattle.std.proofs.Common.{◌≡◌, ℕ, ◌+◌, ◌≤◌, Bool, true, false, ◌&&◌, ◌||◌, not, nat_le, nat_lt, List, [], ◌∷◌, ◌++◌, length, take, All, Option, Some, None, if◌then◌else◌, refl, sym, ap, subst, ◌∙◌, append_assoc, arith}
+use Rattle.std.proofs.Common.{◌≡◌, ℕ, ◌+◌, ◌≤◌, Bool, true, false, ◌&&◌, ◌||◌, not, nat_le, List, [], ◌∷◌, ◌++◌, length, take, All, Option, Some, None, if◌then◌else◌, refl, sym, ap, subst, ◌∙◌, append_assoc, arith}
 use Rattle.std.specs.List.{list_any, count_by}
 use Rattle.std.proofs.Math.Seq.{take-append_seam}
 use Rattle.std.proofs.lemmas.Bool.{or_parts}
 use Rattle.std.proofs.lemmas.Bool.Decides.{nat_tests}
 use Rattle.std.proofs.lemmas.List.{length-append}
-use Rattle.std.proofs.lemmas.List.Elements.{recursion_from_All}
 use Rattle.std.proofs.lemmas.List.Folds.{list_any-append}
 use Rattle.std.proofs.lemmas.List.Sums.{sum_by-append, sum_by-cons}
-use Rattle.trex_stamp.specs.declared.header.TheConstants.{SHORTEST_STAMPED}
-use Rattle.trex_vars.specs.Variable.{Variable, Tuple}
-use Rattle.trex_vars.specs.Value.{value_at}
-use Rattle.trex_vars.proofs.BoundsLemmas.{value-between}
+use Rattle.trex_stamp.specs.declared.header.Version.{Version}
+use Rattle.trex_vars.specs.Variable.{Variable}
 use Rattle.trex_vm.specs.declared.instr.Instr.{Instr}
 use Rattle.trex_vm.specs.Program.{TakesFrom, AreSound}
-use Rattle.trex_vm.specs.Rules.{least_length, room_of, is_trim, trim_wrong, writes_past, misses_header, overwrites_header_kind, accepts}
-use Rattle.trex_vm.proofs.ProgramLemmas.{AreBetween, trimmed-between}
+use Rattle.trex_vm.specs.Rules.{least_length, room_of, no_room_for_stamp, is_trim, trim_wrong, writes_past, misses_header, overwrites_header_kind, accepts}
+use Rattle.trex_vm.proofs.ProgramLemmas.{least_length-within}
 use Rattle.trex_profile.specs.declared.rule.Rule.{Rule}
 use Rattle.trex_profile.specs.declared.rule.Rule.TheVariants.{TwoTrims, TrimRange, NoRoomForStamp, WriteRoom, BadFix, WriteOnShape}
-use Rattle.trex_profile.specs.declared.step.Step.{Step}
-use Rattle.trex_profile.specs.declared.step.Step.TheVariants.{Makes, Does, MissesField, FixesHeader, FixesSegment}
+use Rattle.trex_profile.specs.declared.instructions.steps.Step.{Step}
+use Rattle.trex_profile.specs.declared.instructions.steps.Step.TheVariants.{Makes, Does, MissesField, FixesHeader, FixesSegment}
 use Rattle.trex_profile.specs.InstrRules.{does, twice_rule, trim_rule, field_rule, room_rule, fix_wrong, fix_rule, shape_rule, header_wrong, length_rules, place_rules}
 use Rattle.trex_profile.specs.Order.{first, first_each}
 use Rattle.trex_profile.specs.Refusal.{rule, rule_there}
@@ -126,10 +123,10 @@ all-six : (a b c d e f : Bool) → a ≡ true → b ≡ false → c ≡ false �
 all-six a b c d e f a_is b_is c_is d_is e_is f_is = rw a_is (rw b_is (rw c_is (rw d_is (rw e_is (rw f_is)))))
 
 -- where no rule on lengths is broken, no trim is out of its range
-cuts-none : (vars : List Variable) (whole : ℕ) (stamped : Bool) (steps : List Step) → length_rules vars whole stamped steps ≡ None
+cuts-none : (vars : List Variable) (whole : ℕ) (stamp : Option Version) (steps : List Step) → length_rules vars whole stamp steps ≡ None
     → list_any (trim_wrong vars whole) (program_of steps) ≡ false
 unfolding length_rules
-cuts-none vars whole stamped steps none =
+cuts-none vars whole stamp steps none =
     let three = three-none (first_each (twice_rule steps) 0 steps) (first_each (trim_rule vars whole) 0 steps) _ none in
     does-program (trim_wrong vars whole) steps ∙ each-none TrimRange (does (trim_wrong vars whole)) 0 steps three.1
 
@@ -137,38 +134,32 @@ few-enough : (n : ℕ) → n ≤ 1 → nat_le n 1 ≡ true
 few-enough n few = grind (arith, nat_tests)
 
 -- where no rule on lengths and places is broken, the program is accepted
-pub accepted : (vars : List Variable) (template : List ℕ) (stamped : Bool) (steps : List Step) → length_rules vars (length template) stamped steps ≡ None
-    → place_rules template (room_of (least_length vars (program_of steps) (length template)) stamped) steps ≡ None
-    → accepts vars template stamped (program_of steps) ≡ true
+pub accepted : (vars : List Variable) (template : List ℕ) (stamp : Option Version) (steps : List Step) → length_rules vars (length template) stamp steps ≡ None
+    → place_rules template (room_of (least_length vars (program_of steps) (length template)) stamp) steps ≡ None
+    → accepts vars template stamp (program_of steps) ≡ true
 unfolding length_rules place_rules
-accepted vars template stamped steps lengths places =
+accepted vars template stamp steps lengths places =
     let whole = length template in
     let program = program_of steps in
     let shortest = least_length vars program whole in
-    let room = room_of shortest stamped in
-    let three = three-none (first_each (twice_rule steps) 0 steps) (first_each (trim_rule vars whole) 0 steps) (rule NoRoomForStamp (stamped && nat_lt shortest SHORTEST_STAMPED)) lengths in
+    let room = room_of shortest stamp in
+    let three = three-none (first_each (twice_rule steps) 0 steps) (first_each (trim_rule vars whole) 0 steps) (rule NoRoomForStamp (no_room_for_stamp shortest stamp)) lengths in
     let fields = first-none (first_each field_rule 0 steps) (first_each (room_rule room) 0 steps ∷ first_each (fix_rule template room) 0 steps ∷ first_each (shape_rule program) 0 steps ∷ []) places in
     let further = three-none (first_each (room_rule room) 0 steps) (first_each (fix_rule template room) 0 steps) (first_each (shape_rule program) 0 steps) fields.1 in
     let one = (once [] steps three.0).1 refl in
     let few : count_by is_trim program ≤ 1 = omega (arith, count-program steps) in
-    all-six (nat_le (count_by is_trim program) 1) (list_any (trim_wrong vars whole) program) (stamped && nat_lt shortest SHORTEST_STAMPED) (list_any (writes_past room) program)
+    all-six (nat_le (count_by is_trim program) 1) (list_any (trim_wrong vars whole) program) (no_room_for_stamp shortest stamp) (list_any (writes_past room) program)
     (list_any (misses_header template room) program) (list_any (overwrites_header_kind program) program)
     (few-enough (count_by is_trim program) few)
-    (cuts-none vars whole stamped steps lengths)
-    (whole-none NoRoomForStamp (stamped && nat_lt shortest SHORTEST_STAMPED) three.2)
+    (cuts-none vars whole stamp steps lengths)
+    (whole-none NoRoomForStamp (no_room_for_stamp shortest stamp) three.2)
     (does-program (writes_past room) steps ∙ each-none WriteRoom (does (writes_past room)) 0 steps further.0)
     (does-program (misses_header template room) steps ∙ finds template room steps (each-none BadFix (fix_wrong template room) 0 steps further.1))
     (does-program (overwrites_header_kind program) steps ∙ each-none WriteOnShape (does (overwrites_header_kind program)) 0 steps further.2)
 
 -- the room lies within the template
-pub room-within : (vars : List Variable) (whole : ℕ) (stamped : Bool) (steps : List Step) → AreSound vars → All (TakesFrom (length vars)) (program_of steps)
-    → length_rules vars whole stamped steps ≡ None → room_of (least_length vars (program_of steps) whole) stamped ≤ whole
-room-within vars whole stamped steps sound operands none =
-    let between : AreBetween (λ v. value_at v 0) vars = λ k d below. value-between _ 0 (sound k d below) in
-    let range = trimmed-between (λ v. value_at v 0) vars (Tuple 0 0 0 0 0) (program_of steps) whole between (recursion_from_All (TakesFrom (length vars)) (program_of steps) operands)
-    (cuts-none vars whole stamped steps none) in
-    by_test stamped (least_length vars (program_of steps) whole) (omega (arith, range.0, range.1))
-  where
-    by_test : (test : Bool) (shortest : ℕ) → shortest ≤ whole → room_of shortest test ≤ whole
-    by_test true shortest small = omega arith
-    by_test false shortest small = small
+pub room-within : (vars : List Variable) (whole : ℕ) (stamp : Option Version) (steps : List Step) → AreSound vars → All (TakesFrom (length vars)) (program_of steps)
+    → length_rules vars whole stamp steps ≡ None → room_of (least_length vars (program_of steps) whole) stamp ≤ whole
+room-within vars whole stamp steps sound operands none =
+    let short = least_length-within vars (program_of steps) whole sound operands (cuts-none vars whole stamp steps none) in
+    omega arith

@@ -1,3 +1,4 @@
+mod Lists
 mod Periods
 mod Visiting
 mod Noting
@@ -7,6 +8,8 @@ mod Rounds
 mod Walkable
 mod Naming
 mod Operands
+mod Restarts
 mod Accepted
 pub mod RuleLemmas
 mod FlowNumbers
+pub mod FlowLemmas

@@ -5,8 +5,8 @@ use Rattle.std.proofs.lemmas.Option.{slice_get-get_or}
 use Rattle.std.proofs.lemmas.List.{get_or-map, length-map, take_more}
 use Rattle.trex_sched.specs.declared.chain.Leg.{Leg}
 use Rattle.trex_profile.specs.declared.member.Member.{Member}
-use Rattle.trex_profile.specs.declared.reach.Reach.{Reach}
-use Rattle.trex_profile.specs.declared.reach.Reach.TheVariants.{Nowhere, From, Shared}
+use Rattle.trex_profile.specs.declared.chains.reach.Reach.{Reach}
+use Rattle.trex_profile.specs.declared.chains.reach.Reach.TheVariants.{Nowhere, From, Shared}
 use Rattle.trex_profile.specs.declared.rule.Rule.TheVariants.{SharedStream}
 use Rattle.trex_profile.specs.Chains.{leg_at, leg_of}
 use Rattle.trex_profile.specs.Cross.{rule_at, duplicate_refusal, shared_refusal}

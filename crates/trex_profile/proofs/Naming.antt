@@ -7,11 +7,11 @@ use Rattle.trex_vars.specs.declared.spec.VarSpec.{VarSpec}
 use Rattle.trex_vars.specs.Check.{fault_of}
 use Rattle.trex_vars.specs.Variable.{Variable, variable_of}
 use Rattle.trex_vm.specs.Program.{AreSound}
-use Rattle.trex_profile.specs.declared.given.GivenName.{GivenName}
+use Rattle.trex_profile.specs.declared.instructions.names.GivenName.{GivenName}
 use Rattle.trex_profile.specs.declared.raw.RawInstr.{RawInstr}
 use Rattle.trex_profile.specs.Given.{Given, given_of, given_by, givens, is_given, next_var, is_variable, variable_name, is_empty_name}
 use Rattle.trex_profile.specs.InstrRules.{name_rule}
-use Rattle.trex_profile.specs.Instruction.{Instruction, instruction, FlowVar, ListVar, RandLimit, Tuple, Write, WriteMask, FixIpv4, FixHw, Trim}
+use Rattle.trex_profile.specs.Instruction.{Instruction, instruction, FlowVar, ListVar, RandLimit, Tuple, Write, WriteMask, FixIpv4, FixHw, FixL6, Trim}
 use Rattle.trex_profile.specs.Steps.{variable_at, variables_from}
 
 -- the place of the variable after those of some instructions
@@ -73,14 +73,15 @@ var_after-more instrs at x small is =
 -- the names that an instruction gives don't hang on the place of its variable
 given_by-names : (names : List Given) (var : ℕ) (x : Instruction)
     → list_any (λ (g : Given). is_given names g.name) (given_by var x) ≡ list_any (λ (g : Given). is_given names g.name) (given_by 0 x)
-given_by-names names var (FlowVar name size op init min max step) = refl
-given_by-names names var (ListVar name size op step values) = refl
-given_by-names names var (RandLimit name size min max limit seed) = refl
-given_by-names names var (Tuple name ip_min ip_max port_min port_max limit) = refl
+given_by-names names var (FlowVar name size op init min max step restart) = refl
+given_by-names names var (ListVar name size op step values restart) = refl
+given_by-names names var (RandLimit name size min max limit seed restart) = refl
+given_by-names names var (Tuple name ip_min ip_max port_min port_max limit restart) = refl
 given_by-names names var (Write name place add big) = refl
 given_by-names names var (WriteMask name place cast mask shift add big) = refl
 given_by-names names var (FixIpv4 at) = refl
 given_by-names names var (FixHw l2 l3 l4) = refl
+given_by-names names var (FixL6 l2 l4) = refl
 given_by-names names var (Trim name) = refl
 
 -- the rule on names by what was given before and what is given here

@@ -2,8 +2,8 @@
 use Rattle.std.proofs.Common.{◌≡◌, ◌≢◌, ℕ, suc, ◌<◌, Bool, true, false, nat_eq, List, [], ◌∷◌, ◌++◌, length, set, Option, None, Some, position, ◌⊎◌, inl, inr, if◌then◌else◌, refl, sym, ap, ◌∙◌, arith, true≢false}
 use Rattle.std.proofs.lemmas.Bool.Decides.{nat_tests}
 use Rattle.std.proofs.lemmas.List.{get_or-set_same, get_or-set_other}
-use Rattle.trex_profile.specs.declared.reach.Reach.{Reach}
-use Rattle.trex_profile.specs.declared.reach.Reach.TheVariants.{Nowhere, From, Shared}
+use Rattle.trex_profile.specs.declared.chains.reach.Reach.{Reach}
+use Rattle.trex_profile.specs.declared.chains.reach.Reach.TheVariants.{Nowhere, From, Shared}
 use Rattle.trex_profile.specs.Visits.{Round, has, link_at, visits, round_of, comes_to}
 use Rattle.trex_profile.specs.Reached.{noted, with_start, IsClosed}
 use Rattle.trex_profile.proofs.Visiting.{has-push_new, has-visits, visits-visited, visits-last, visits-next, visits-shared}

@@ -2,8 +2,8 @@
 use Rattle.std.proofs.Common.{◌≡◌, ℕ, ◌+◌, ◌≤◌, ◌<◌, Bool, true, false, List, [], ◌∷◌, length, get_or, map, drop, Option, Some, None, Ok, Err, if◌then◌else◌, refl, sym, ap, add-one, arith}
 use Rattle.std.proofs.Math.Seq.{drop-cons}
 use Rattle.trex_profile.specs.declared.refusal.Breach.{Breach}
-use Rattle.trex_profile.specs.declared.fault.StreamFault.{StreamFault}
-use Rattle.trex_profile.specs.declared.fault.StreamFault.TheVariants.{Broken, Memory}
+use Rattle.trex_profile.specs.declared.fault.Fault.{Fault}
+use Rattle.trex_profile.specs.declared.fault.Fault.TheVariants.{Refused, Memory}
 use Rattle.trex_profile.specs.Answer.{Fails}
 use Rattle.trex_profile.specs.Order.{first, first_each, unless}
 use Rattle.trex_profile.specs.Stream.{Stream}
@@ -40,9 +40,9 @@ unless-broken None x e is = absurd (cc)
 unless-broken (Some other) x e is = cc
 
 -- the fault of the first item that breaks a rule is that of all
-pub fails-here : {A B X Y : Type 0} (f : ℕ → B → Option Breach) (g : A → B) (xs : List A) (i : ℕ) (d : A) (fault : StreamFault) (x : X) (y : Y) → i < length xs
+pub fails-here : {A B X Y : Type 0} (f : ℕ → B → Option Breach) (g : A → B) (xs : List A) (i : ℕ) (d : A) (fault : Fault Breach) (x : X) (y : Y) → i < length xs
     → Fails fault (unless (f i (g (get_or xs i d))) x) → Fails fault (unless (first_each f i (map g (drop i xs))) y)
-fails-here f g xs i d (Broken b) x y inside is =
+fails-here f g xs i d (Refused b) x y inside is =
     ap (λ rule. unless rule y) (first_each-here f g xs i d b inside (unless-broken (f i (g (get_or xs i d))) x b is))
 fails-here f g xs i d Memory x y inside is = tt
 

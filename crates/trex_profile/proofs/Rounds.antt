@@ -7,7 +7,7 @@ use Rattle.std.specs.List.{AllByRecursion, IsDistinct, slice_get}
 use Rattle.std.specs.Option.{IfSome}
 use Rattle.trex_merge.specs.Order.{EachPair, joined}
 use Rattle.trex_merge.proofs.ListLemmas.{all-append}
-use Rattle.trex_profile.specs.declared.reach.Reach.TheVariants.{Shared}
+use Rattle.trex_profile.specs.declared.chains.reach.Reach.TheVariants.{Shared}
 use Rattle.trex_profile.specs.Visits.{Round, has, link_at, visits, round_of, comes_to, reach_of, reach_at}
 use Rattle.trex_profile.proofs.Visiting.{has-push_new, has-visits, step_by, IsOrder, IsOrder-push}
 

@@ -12,8 +12,8 @@ use Rattle.trex_sched.specs.declared.mode.Mode.TheVariants.{Continuous, SingleBu
 use Rattle.trex_sched.specs.Times.{HasPackets, size, size_of}
 use Rattle.trex_sched.specs.Chain.{Chain, IsChain}
 use Rattle.trex_sched.specs.Walks.{HaveDistinctStreams}
-use Rattle.trex_profile.specs.declared.reach.Reach.{Reach}
-use Rattle.trex_profile.specs.declared.reach.Reach.TheVariants.{Shared}
+use Rattle.trex_profile.specs.declared.chains.reach.Reach.{Reach}
+use Rattle.trex_profile.specs.declared.chains.reach.Reach.TheVariants.{Shared}
 use Rattle.trex_profile.specs.declared.rule.Rule.TheVariants.{BadLength, RateZero, RateTooHigh, CountZero, SharedStream}
 use Rattle.trex_profile.specs.Order.{first, first_each}
 use Rattle.trex_profile.specs.Refusal.{rule, in_stream}

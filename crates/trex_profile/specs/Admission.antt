@@ -1,9 +1,7 @@
 -- Which profiles are admitted (own).
-use Rattle.std.specs.Prelude.{◌≡◌, ◌≤◌, List, [], ◌∷◌, length, Option, Result, Ok, Err, All}
+use Rattle.std.specs.Prelude.{◌≤◌, List, [], ◌∷◌, length, Option, Result, All}
 use Rattle.trex_profile.specs.declared.raw.RawProfile.{RawProfile}
 use Rattle.trex_profile.specs.declared.refusal.Refusal.{Refusal}
-use Rattle.trex_profile.specs.declared.admission.AdmitFault.{AdmitFault}
-use Rattle.trex_profile.specs.declared.admission.AdmitFault.TheVariants.{Refused, Memory}
 use Rattle.trex_profile.specs.Order.{first, first_each, unless}
 use Rattle.trex_profile.specs.Stream.{Stream, IsRawStream}
 use Rattle.trex_profile.specs.Rules.{value_refusal}
@@ -21,13 +19,3 @@ refusal_of streams = first (first_each value_refusal 0 streams ∷ cross_rules s
 -- the streams, unless a rule is broken
 abbrev pub admitted : List Stream → Result (List Stream) Refusal
 admitted streams = unless (refusal_of streams) streams
-
--- an error is the refusal, unless memory ran out
-abbrev pub Fails : {A : Type 0} → AdmitFault → Result A Refusal → Type 0
-Fails (Refused r) defined = defined ≡ Err r
-Fails Memory defined = Unit {0}
-
--- an answer, seen by view, is what is defined, unless memory ran out
-abbrev pub Admits : {X Y : Type 0} → (X → Y) → Result X AdmitFault → Result Y Refusal → Type 0
-Admits view (Ok x) defined = defined ≡ Ok (view x)
-Admits view (Err e) defined = Fails e defined

@@ -1,5 +1,5 @@
 -- The rules over several streams (own).
-use Rattle.std.specs.Prelude.{ℕ, Bool, false, nat_eq, List, [], ◌∷◌, take, Option, None, Some, is_none}
+use Rattle.std.specs.Prelude.{ℕ, Bool, false, nat_eq, List, [], ◌∷◌, take, Option, None, Some, is_none, option_map}
 use Rattle.std.specs.List.{list_any, filter_map}
 use Rattle.trex_profile.specs.declared.rule.Rule.{Rule}
 use Rattle.trex_profile.specs.declared.rule.Rule.TheVariants.{DuplicateId, NoSuchStream, SharedStream, DuplicateFlow}
@@ -34,9 +34,13 @@ lost_refusal ids position s = rule_at NoSuchStream position (is_lost ids s.next)
 abbrev pub shared_refusal : List (Option ℕ) → List ℕ → ℕ → Stream → Option Refusal
 shared_refusal links starts position s = rule_at SharedStream position (is_shared (reach_at links starts position))
 
--- the flow numbers of streams
+-- the flow number of a stream, where it has a flow
+abbrev pub flow_number : Stream → Option ℕ
+flow_number s = option_map (λ flow. flow.number) s.flow
+
+-- the flow numbers of streams, whatever the versions of their latency headers
 abbrev pub flows : List Stream → List ℕ
-flows streams = filter_map (λ s. s.flow) streams
+flows streams = filter_map flow_number streams
 
 -- there is a flow number, and it is among these
 abbrev pub has_flow : List ℕ → Option ℕ → Bool
@@ -45,7 +49,7 @@ has_flow flows (Some flow) = list_any (nat_eq flow) flows
 
 -- an earlier stream has the same flow number
 abbrev pub flow_refusal : List Stream → ℕ → Stream → Option Refusal
-flow_refusal streams position s = rule_at DuplicateFlow position (has_flow (flows (take position streams)) s.flow)
+flow_refusal streams position s = rule_at DuplicateFlow position (has_flow (flows (take position streams)) (flow_number s))
 
 -- the rules over several streams, in their order
 unfoldable pub cross_rules : List Stream → Option Refusal

@@ -4,8 +4,8 @@ use Rattle.std.specs.List.{list_any}
 use Rattle.trex_vm.specs.declared.instr.Part.{Part}
 use Rattle.trex_vm.specs.declared.instr.Part.TheVariants.{Whole, Ip, Port}
 use Rattle.trex_vm.specs.declared.instr.Operand.{Operand}
-use Rattle.trex_profile.specs.declared.given.GivenName.{GivenName}
-use Rattle.trex_profile.specs.Instruction.{Instruction, FlowVar, ListVar, RandLimit, Tuple, Write, WriteMask, FixIpv4, FixHw, Trim}
+use Rattle.trex_profile.specs.declared.instructions.names.GivenName.{GivenName}
+use Rattle.trex_profile.specs.Instruction.{Instruction, FlowVar, ListVar, RandLimit, Tuple}
 
 -- a name, and the variable or the part of one that it stands for
 pub record Given : Type 0 where
@@ -18,15 +18,11 @@ given_of g = record { name = g.name.items; operand = g.operand }
 
 -- the name of the variable that an instruction makes, where it makes one
 abbrev pub variable_name : Instruction → Option (List ℕ)
-variable_name (FlowVar name size op init min max step) = Some name
-variable_name (ListVar name size op step values) = Some name
-variable_name (RandLimit name size min max limit seed) = Some name
-variable_name (Tuple name ip_min ip_max port_min port_max limit) = Some name
-variable_name (Write name place add big) = None
-variable_name (WriteMask name place cast mask shift add big) = None
-variable_name (FixIpv4 at) = None
-variable_name (FixHw l2 l3 l4) = None
-variable_name (Trim name) = None
+variable_name (FlowVar name size op init min max step restart) = Some name
+variable_name (ListVar name size op step values restart) = Some name
+variable_name (RandLimit name size min max limit seed restart) = Some name
+variable_name (Tuple name ip_min ip_max port_min port_max limit restart) = Some name
+variable_name _ = None
 
 -- an instruction makes a variable
 abbrev pub is_variable : Instruction → Bool
@@ -44,16 +40,12 @@ given name var part size = record { name = name; operand = record { var = var; p
 -- The names that an instruction gives, as the variable at a place among the stream's variables: its own, or of a pair of an address
 -- and a port those of its parts.
 abbrev pub given_by : ℕ → Instruction → List Given
-given_by var (FlowVar name size op init min max step) = given name var Whole size ∷ []
-given_by var (ListVar name size op step values) = given name var Whole size ∷ []
-given_by var (RandLimit name size min max limit seed) = given name var Whole size ∷ []
-given_by var (Tuple name ip_min ip_max port_min port_max limit) =
+given_by var (FlowVar name size op init min max step restart) = given name var Whole size ∷ []
+given_by var (ListVar name size op step values restart) = given name var Whole size ∷ []
+given_by var (RandLimit name size min max limit seed restart) = given name var Whole size ∷ []
+given_by var (Tuple name ip_min ip_max port_min port_max limit restart) =
     given (name ++ codes ".ip") var Ip 4 ∷ given (name ++ codes ".port") var Port 2 ∷ []
-given_by var (Write name place add big) = []
-given_by var (WriteMask name place cast mask shift add big) = []
-given_by var (FixIpv4 at) = []
-given_by var (FixHw l2 l3 l4) = []
-given_by var (Trim name) = []
+given_by var _ = []
 
 -- the place of the next variable
 abbrev pub next_var : ℕ → Instruction → ℕ

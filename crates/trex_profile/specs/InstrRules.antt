@@ -1,17 +1,16 @@
 -- The rules on a stream's instructions (own). Each is looked at over all of them in order, before the next rule.
-use Rattle.std.specs.Prelude.{ℕ, ◌==◌, ◌&&◌, ◌||◌, not, nat_lt, Bool, true, false, List, [], ◌∷◌, length, take, Option, None, Some, is_none, is_some}
+use Rattle.std.specs.Prelude.{ℕ, ◌==◌, ◌&&◌, ◌||◌, not, Bool, true, false, List, [], ◌∷◌, length, take, Option, None, Some, is_none, is_some}
 use Rattle.std.specs.List.{list_any}
-use Rattle.trex_layers.specs.declared.places.Layers.{Layers}
-use Rattle.trex_stamp.specs.declared.header.TheConstants.{SHORTEST_STAMPED}
+use Rattle.trex_stamp.specs.declared.header.Version.{Version}
 use Rattle.trex_vars.specs.Variable.{Variable}
 use Rattle.trex_vars.specs.Check.{fault_of}
 use Rattle.trex_vm.specs.declared.instr.Instr.{Instr}
 use Rattle.trex_vm.specs.Fix.{header_length}
-use Rattle.trex_vm.specs.Rules.{least_length, room_of, is_trim, trim_wrong, writes_past, misses_header, overwrites_header_kind}
+use Rattle.trex_vm.specs.Rules.{least_length, room_of, no_room_for_stamp, is_trim, trim_wrong, writes_past, misses_header, overwrites_header_kind}
 use Rattle.trex_profile.specs.declared.refusal.Breach.{Breach}
 use Rattle.trex_profile.specs.declared.rule.Rule.TheVariants.{VarName, VarRange, UnknownVariable, TwoTrims, TrimRange, NoRoomForStamp, BadField, WriteRoom, BadFix, WriteOnShape}
-use Rattle.trex_profile.specs.declared.step.Step.{Step}
-use Rattle.trex_profile.specs.declared.step.Step.TheVariants.{Makes, Does, MissesField, FixesHeader, FixesSegment}
+use Rattle.trex_profile.specs.declared.instructions.steps.Step.{Step}
+use Rattle.trex_profile.specs.declared.instructions.steps.Step.TheVariants.{Makes, Does, MissesField, FixesHeader, FixesSegment}
 use Rattle.trex_profile.specs.Given.{Given, variable_name, is_empty_name, given_by, givens, is_given}
 use Rattle.trex_profile.specs.Instruction.{Instruction}
 use Rattle.trex_profile.specs.Order.{first, first_each}
@@ -34,8 +33,8 @@ abbrev pub range_rule : ℕ → ℕ → Instruction → Option Breach
 range_rule seed place x = rule_there VarRange place (has_fault (variable_at seed place x))
 
 -- an instruction uses the name of a variable that isn't given
-abbrev pub unknown_rule : Layers → List Given → ℕ → Instruction → Option Breach
-unknown_rule layers names place x = rule_there UnknownVariable place (is_none (resolved layers names x))
+abbrev pub unknown_rule : List ℕ → List Given → ℕ → Instruction → Option Breach
+unknown_rule template names place x = rule_there UnknownVariable place (is_none (resolved template names x))
 
 -- a test holds of an instruction of the step
 abbrev pub does : (Instr → Bool) → Step → Bool
@@ -84,19 +83,19 @@ abbrev pub shape_rule : List Instr → ℕ → Step → Option Breach
 shape_rule program place s = rule_there WriteOnShape place (does (overwrites_header_kind program) s)
 
 -- the rules on the names of instructions, in their order
-unfoldable pub names_rules : Layers → ℕ → List Instruction → Option Breach
-names_rules layers seed instrs = first (
+unfoldable pub names_rules : List ℕ → ℕ → List Instruction → Option Breach
+names_rules template seed instrs = first (
     first_each (name_rule instrs) 0 instrs
     ∷ first_each (range_rule seed) 0 instrs
-    ∷ first_each (unknown_rule layers (givens 0 instrs)) 0 instrs
+    ∷ first_each (unknown_rule template (givens 0 instrs)) 0 instrs
     ∷ [])
 
 -- the rules on the packets' lengths, in their order
-unfoldable pub length_rules : List Variable → ℕ → Bool → List Step → Option Breach
-length_rules vars whole stamped steps = first (
+unfoldable pub length_rules : List Variable → ℕ → Option Version → List Step → Option Breach
+length_rules vars whole stamp steps = first (
     first_each (twice_rule steps) 0 steps
     ∷ first_each (trim_rule vars whole) 0 steps
-    ∷ rule NoRoomForStamp (stamped && nat_lt (least_length vars (program_of steps) whole) SHORTEST_STAMPED)
+    ∷ rule NoRoomForStamp (no_room_for_stamp (least_length vars (program_of steps) whole) stamp)
     ∷ [])
 
 -- the rules on the places that are written, in their order: so many bytes stand in front of the latency header
@@ -109,8 +108,8 @@ place_rules template room steps = first (
     ∷ [])
 
 -- the rules on what steps do, in their order
-unfoldable pub does_rules : List Variable → List ℕ → Bool → List Step → Option Breach
-does_rules vars template stamped steps = first (
-    length_rules vars (length template) stamped steps
-    ∷ place_rules template (room_of (least_length vars (program_of steps) (length template)) stamped) steps
+unfoldable pub does_rules : List Variable → List ℕ → Option Version → List Step → Option Breach
+does_rules vars template stamp steps = first (
+    length_rules vars (length template) stamp steps
+    ∷ place_rules template (room_of (least_length vars (program_of steps) (length template)) stamp) steps
     ∷ [])

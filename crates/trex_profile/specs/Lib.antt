@@ -2,6 +2,7 @@ pub mod Order
 pub mod Refusal
 pub mod Answer
 pub mod Instruction
+pub mod Flow
 pub mod Stream
 pub mod Given
 pub mod Steps

@@ -1,7 +1,7 @@
 -- What is noted of the positions that chains come to (own).
 use Rattle.std.specs.Prelude.{◌≡◌, ℕ, ◌+◌, ◌≤◌, ◌<◌, List, [], ◌∷◌, length, slice_index_or, Option, Some}
-use Rattle.trex_profile.specs.declared.reach.Reach.{Reach}
-use Rattle.trex_profile.specs.declared.reach.Reach.TheVariants.{Nowhere, From, Shared}
+use Rattle.trex_profile.specs.declared.chains.reach.Reach.{Reach}
+use Rattle.trex_profile.specs.declared.chains.reach.Reach.TheVariants.{Nowhere, From, Shared}
 use Rattle.trex_profile.specs.Visits.{link_at, reach_at}
 
 -- what is noted of a position

@@ -3,8 +3,10 @@ use Rattle.std.specs.Prelude.{ℕ, ◌≤◌, ◌<◌, ◌^◌, Bool, List, leng
 use Rattle.std.specs.Option.{ForSome}
 use Rattle.trex_sched.specs.declared.mode.Mode.{Mode}
 use Rattle.trex_sched.specs.declared.mode.Mode.TheVariants.{Continuous, SingleBurst, MultiBurst}
+use Rattle.trex_profile.specs.declared.flow.Flow.{Flow}
 use Rattle.trex_profile.specs.declared.raw.RawRate.{RawRate}
 use Rattle.trex_profile.specs.declared.raw.RawStream.{RawStream}
+use Rattle.trex_profile.specs.Flow.{IsFlow}
 use Rattle.trex_profile.specs.Instruction.{Instruction, instruction, IsRawInstr}
 
 -- A stream: its names in a profile, each default filled in. The gap is in nanoseconds, the template is the bytes of each packet
@@ -20,7 +22,7 @@ pub record Stream : Type 0 where
   pub template : List ℕ
   pub rate : RawRate
   pub mode : Mode
-  pub flow : Option ℕ
+  pub flow : Option Flow
   pub instrs : List Instruction
 
 -- a stream as it is held before its values are looked at
@@ -53,5 +55,6 @@ pub record IsRawStream (s : RawStream) : Type 0 where
   pub isg : s.isg ≤ 10 ^ 18
   pub rate : s.rate.value < 10 ^ 30
   pub ibg : HasGap s.mode
+  pub flow : ForSome s.flow IsFlow
   pub count : length s.instrs.items ≤ 256
   pub instrs : All IsRawInstr (map instruction s.instrs.items)

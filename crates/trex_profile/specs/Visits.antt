@@ -1,8 +1,8 @@
 -- Which streams a chain visits, by their positions (own). Each position is linked to the one that follows it, or to none.
 use Rattle.std.specs.Prelude.{ℕ, zero, suc, ◌<◌, nat_eq, List, [], ◌∷◌, ◌++◌, length, filter, position, slice_get, Bool, true, false, Option, None, Some, IfSome, option_and_then, if◌then◌else◌}
 use Rattle.std.specs.List.{list_any}
-use Rattle.trex_profile.specs.declared.reach.Reach.{Reach}
-use Rattle.trex_profile.specs.declared.reach.Reach.TheVariants.{Nowhere, From, Shared}
+use Rattle.trex_profile.specs.declared.chains.reach.Reach.{Reach}
+use Rattle.trex_profile.specs.declared.chains.reach.Reach.TheVariants.{Nowhere, From, Shared}
 
 -- the positions in the order in which a chain comes to them, each once, and the place in that order to which it comes back
 pub record Round : Type 0 where

@@ -1,52 +1,25 @@
-ghost use Rattle.std.specs.Prelude.{◌≡◌, map, All, length, ◌≤◌, IfOk};
-ghost use Rattle.trex_profile.specs.Admission.{IsRawProfile, Admits, admitted};
+// Which profiles are admitted: each stream is looked at by itself, then all of them together.
+
+ghost use Rattle.std.specs.Prelude.{map, All, length, ◌≤◌, IfOk};
+ghost use Rattle.trex_profile.specs.Admission.{IsRawProfile, admitted};
+ghost use Rattle.trex_profile.specs.Answer.{Gives};
 ghost use Rattle.trex_profile.specs.Member.{member_stream, IsMember};
 ghost use Rattle.trex_profile.specs.Order.{first_each, unless};
 ghost use Rattle.trex_profile.specs.Rules.{value_refusal};
 ghost use Rattle.trex_profile.specs.Stream.{IsRawStream, raw_stream};
 
-use crate::cross::follow;
+use crate::fault::AdmitFault;
 use crate::member::Member;
 use crate::profile::Profile;
 use crate::raw::{RawProfile, RawStream};
-use crate::refusal::Refusal;
-use std::alloc::{AllocFailed, Global};
-use trex_io::Memory;
-
-/// Why a profile isn't admitted.
-#[derive(Clone, Copy, Debug, PartialEq, Eq)]
-pub enum AdmitFault {
-    /// The first broken rule on values, or over several streams.
-    Refused(Refusal),
-    /// There was no memory for the profile.
-    Memory,
-}
-
-impl From<Memory> for AdmitFault {
-    ghost use Rattle.trex_profile.specs.declared.admission.AdmitFault.TheVariants.{Memory as OutOfMemory};
-
-    ghost from_gives = { λ _ fault. fault ≡ OutOfMemory };
-
-    fn from(_memory: Memory) -> AdmitFault {
-        AdmitFault::Memory
-    }
-}
-
-impl<T: Drop> From<AllocFailed<T>> for AdmitFault {
-    ghost use Rattle.trex_profile.specs.declared.admission.AdmitFault.TheVariants.{Memory as OutOfMemory};
-
-    ghost from_gives = { λ _ fault. fault ≡ OutOfMemory };
-
-    fn from(_failed: AllocFailed<T>) -> AdmitFault {
-        AdmitFault::Memory
-    }
-}
+use crate::rules::cross::follow;
+use std::alloc::Global;
 
 /// The streams whose values keep the rules, or the first broken rule.
 fn each_stream(alloc: Global, raws: Vec<RawStream>) -> Result<Vec<Member>, AdmitFault>
     requires few { length raws.items ≤ 4096 }
     requires ranges { All IsRawStream raws.items }
-    ensures value { Admits (λ members. map member_stream members.items) result
+    ensures value { Gives (λ members. map member_stream members.items) result
         (unless (first_each value_refusal 0 (map raw_stream raws.items)) (map raw_stream raws.items)) }
     ensures specs { IfOk result (λ members. All IsMember members.items) }
 {
@@ -65,7 +38,7 @@ fn each_stream(alloc: Global, raws: Vec<RawStream>) -> Result<Vec<Member>, Admit
 /// Admits a profile, unless a rule on its values or over its streams is broken: the first one is the refusal.
 pub fn admit(alloc: Global, raw: RawProfile) -> Result<Profile, AdmitFault>
     requires { IsRawProfile raw }
-    ensures { Admits (λ streams. streams) result (admitted (map raw_stream raw.streams.items)) }
+    ensures { Gives (λ streams. streams) result (admitted (map raw_stream raw.streams.items)) }
 {
     let members = each_stream(alloc, raw.streams)?;
     let following = follow(alloc, &members)?;

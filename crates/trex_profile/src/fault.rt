@@ -1,36 +1,43 @@
-ghost use Rattle.std.specs.Prelude.{◌≡◌};
+// Why a profile, or one stream of it, is not taken.
 
-use crate::admission::AdmitFault;
-use crate::refusal::Breach;
+use crate::refusal::{Breach, Refusal};
 use crate::rule::Rule;
 use std::alloc::AllocFailed;
 use trex_io::Memory;
 
-/// Why one stream of a profile isn't taken.
+/// The first rule that is broken, with its place, or no memory.
 #[derive(Clone, Copy, Debug, PartialEq, Eq)]
-pub enum StreamFault {
-    /// The first rule that the stream breaks.
-    Broken(Breach),
-    /// There was no memory for the stream.
+pub enum Fault<R> {
+    /// The first broken rule.
+    Refused(R),
+    /// There was no memory.
     Memory,
 }
 
-impl StreamFault {
+/// Why a profile isn't admitted.
+pub type AdmitFault = Fault<Refusal>;
+
+/// Why one stream of a profile isn't taken.
+pub type StreamFault = Fault<Breach>;
+
+impl Fault<Breach> {
+    ghost use Rattle.std.specs.Prelude.{◌≡◌};
+    ghost use Rattle.trex_profile.specs.declared.fault.Fault.TheVariants.{Refused as IsRefused};
     ghost use Rattle.trex_profile.specs.Answer.{fault_at};
     ghost use Rattle.trex_profile.specs.Refusal.{whole_stream, at_place};
 
     /// A rule about the stream as a whole.
     pub fn of_stream(rule: Rule) -> StreamFault
-        ensures { result ≡ StreamFault.Broken (whole_stream rule) }
+        ensures { result ≡ IsRefused (whole_stream rule) }
     {
-        StreamFault::Broken(Breach::of_stream(rule))
+        Fault::Refused(Breach::of_stream(rule))
     }
 
     /// A rule at an instruction or a layer.
     pub fn at_place(at: u32, rule: Rule) -> StreamFault
-        ensures { result ≡ StreamFault.Broken (at_place at rule) }
+        ensures { result ≡ IsRefused (at_place at rule) }
     {
-        StreamFault::Broken(Breach::at_place(at, rule))
+        Fault::Refused(Breach::at_place(at, rule))
     }
 
     /// The fault of the profile that has the stream at a position.
@@ -38,28 +45,30 @@ impl StreamFault {
         ensures { result ≡ fault_at position self }
     {
         match self {
-            StreamFault::Broken(breach) => AdmitFault::Refused(breach.in_stream(position)),
-            StreamFault::Memory => AdmitFault::Memory,
+            Fault::Refused(breach) => Fault::Refused(breach.in_stream(position)),
+            Fault::Memory => Fault::Memory,
         }
     }
 }
 
-impl From<Memory> for StreamFault {
-    ghost use Rattle.trex_profile.specs.declared.fault.StreamFault.TheVariants.{Memory as OutOfMemory};
+impl<R> From<Memory> for Fault<R> {
+    ghost use Rattle.std.specs.Prelude.{◌≡◌};
+    ghost use Rattle.trex_profile.specs.declared.fault.Fault.TheVariants.{Memory as OutOfMemory};
 
     ghost from_gives = { λ _ fault. fault ≡ OutOfMemory };
 
-    fn from(_memory: Memory) -> StreamFault {
-        StreamFault::Memory
+    fn from(_memory: Memory) -> Fault<R> {
+        Fault::Memory
     }
 }
 
-impl<T: Drop> From<AllocFailed<T>> for StreamFault {
-    ghost use Rattle.trex_profile.specs.declared.fault.StreamFault.TheVariants.{Memory as OutOfMemory};
+impl<R, T: Drop> From<AllocFailed<T>> for Fault<R> {
+    ghost use Rattle.std.specs.Prelude.{◌≡◌};
+    ghost use Rattle.trex_profile.specs.declared.fault.Fault.TheVariants.{Memory as OutOfMemory};
 
     ghost from_gives = { λ _ fault. fault ≡ OutOfMemory };
 
-    fn from(_failed: AllocFailed<T>) -> StreamFault {
-        StreamFault::Memory
+    fn from(_failed: AllocFailed<T>) -> Fault<R> {
+        Fault::Memory
     }
 }

@@ -1,33 +1,26 @@
-// Profiles: the rules on the values of their streams, and the chains in which the streams send.
+//! Profiles: the rules on the values of their streams, and the chains in which the streams send.
 #![tactic(auto)]
 
 mod admission;
 mod chains;
-mod cross;
 mod fault;
-mod flows;
-mod given;
+mod flow;
+mod instructions;
 mod laws;
-mod links;
 mod member;
 mod name;
-mod order;
-mod parts;
 mod profile;
 mod raw;
-mod reach;
 mod refusal;
 mod rule;
 mod rules;
-mod step;
-mod times;
 
-pub use admission::{AdmitFault, admit};
-pub use fault::StreamFault;
-pub use laws::profiles_can_be_walked;
+pub use admission::admit;
+pub use fault::{AdmitFault, Fault, StreamFault};
+pub use flow::Flow;
+pub use laws::{profiles_can_be_walked, value_rules_in_order};
 pub use member::StreamSpec;
 pub use name::Name;
-pub use order::value_rules_in_order;
 pub use profile::Profile;
 pub use raw::{RateKind, RawInstr, RawPlace, RawProfile, RawRate, RawStream};
 pub use refusal::{Breach, Refusal};

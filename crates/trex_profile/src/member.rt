@@ -1,14 +1,16 @@
+// An admitted stream, and what its packets are made of.
+
 ghost use Rattle.std.specs.Prelude.{◌≡◌, ◌≤◌, ◌<◌, length, vec_len, Some};
 ghost use Rattle.trex_layers.specs.declared.sizes.TheConstants.{LONGEST_PACKET, SHORTEST_PACKET};
 ghost use Rattle.trex_sched.specs.Times.{period_of};
 ghost use Rattle.trex_profile.specs.Rules.{numerator_of};
 
 use crate::fault::StreamFault;
-use crate::parts::{parts_of, program_for};
+use crate::flow::{Flow, version_of};
+use crate::instructions::program::{parts_of, program_for};
 use crate::raw::{RawInstr, RawRate, RawStream};
-use crate::times::period_of;
+use crate::rules::times::period_of;
 use std::alloc::Global;
-use trex_layers::parse;
 use trex_sched::{Leg, Mode, Period};
 use trex_vars::VarSpec;
 use trex_vm::{Program, programs_fit};
@@ -21,10 +23,13 @@ pub struct StreamSpec {
     pub template: Vec<u8>,
     /// The variables, in the order of their instructions.
     pub vars: Vec<VarSpec>,
+    /// Of each of them, whether it restarts at each visit of the stream.
+    pub restart: Vec<bool>,
     /// The other instructions.
     pub program: Program,
-    /// The flow number of the latency headers, where the packets have them.
-    pub flow: Option<u16>,
+    /// The flow of the packets, where they end in latency headers.
+    pub flow: Option<Flow>,
+    pub ghost paired: { vec_len restart ≡ vec_len vars },
     pub ghost at_least: { SHORTEST_PACKET ≤ vec_len template },
     pub ghost at_most: { vec_len template ≤ LONGEST_PACKET },
 }
@@ -64,22 +69,22 @@ impl Member {
         ensures spec { IfOk result (λ member. IsSpecOf (member_stream member) member.spec) }
     {
         let period = period_of(&raw)?;
-        let layers = parse(&raw.template);
-        let parts = parts_of(alloc, &layers, raw.seed, &raw.instrs)?;
+        let parts = parts_of(alloc, &raw.template, raw.seed, &raw.instrs)?;
         let program = program_for(
             alloc,
             &parts.vars,
             &parts.steps,
             &raw.template,
-            raw.flow.is_some(),
+            version_of(raw.flow),
         )?;
-        // An accepted program fits its template and the values of its variables.
+        // An accepted program is meant for its template and for the values of its variables.
         programs_fit();
         Ok(Member {
             spec: StreamSpec {
                 id: raw.id,
                 template: raw.template,
                 vars: parts.vars,
+                restart: parts.restart,
                 program,
                 flow: raw.flow,
             },

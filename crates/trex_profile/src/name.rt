@@ -1,3 +1,5 @@
+// The names of variables.
+
 use std::alloc::Global;
 use std::marker::Model;
 use trex_io::Memory;

@@ -1,6 +1,8 @@
-use crate::chains::chains_of;
-use crate::cross::Following;
+// An admitted profile: its streams and their chains.
+
+use crate::chains::visits::chains_of;
 use crate::member::{Member, StreamSpec};
+use crate::rules::cross::Following;
 use std::alloc::Global;
 use std::marker::Model;
 use trex_io::Memory;
@@ -32,12 +34,13 @@ impl Model for Profile {
 }
 
 impl Profile {
-    ghost use Rattle.std.specs.Prelude.{◌≡◌, ℕ, ◌≤◌, ◌<◌, ◌^◌, ◌↔◌, [], length, map, All, None, Some, IsTrue, IfOk, IfSome, IsSomeAnd, slice_get};
+    ghost use Rattle.std.specs.Prelude.{◌≡◌, ℕ, ◌≤◌, ◌<◌, ◌↔◌, [], length, map, All, None, Some, IsTrue, IfOk, IfSome, IsSomeAnd, slice_get};
     ghost use Rattle.std.specs.List.{AllByRecursion};
     ghost use Rattle.trex_sched.specs.Chain.{chain_of, IsChain};
     ghost use Rattle.trex_sched.specs.Walks.{HaveDistinctStreams};
     ghost use Rattle.trex_profile.specs.Admission.{refusal_of};
     ghost use Rattle.trex_profile.specs.Chains.{starts, chains_of};
+    ghost use Rattle.trex_profile.specs.Flow.{IsFlow};
     ghost use Rattle.trex_profile.specs.Links.{links};
     ghost use Rattle.trex_profile.specs.Member.{member_stream, IsMember};
     ghost use Rattle.trex_profile.specs.Packets.{EndsInStamp, packet_of};
@@ -69,10 +72,10 @@ impl Profile {
         ensures value { result ≡ length self.now }
         // A profile keeps the rules, and no packet is longer than the longest.
         ensures kept { refusal_of self.now ≡ None }
-        ensures short { AllByRecursion (λ s. (number time : ℕ) → length (packet_of s number time) ≤ LONGEST_PACKET) self.now }
-        // Each packet of a stream that has a flow ends in its latency header.
+        ensures short { AllByRecursion (λ s. (number place time : ℕ) → length (packet_of s number place time) ≤ LONGEST_PACKET) self.now }
+        // Each packet of a stream that has a flow ends in its latency header, and the flow fits its version.
         ensures stamped { AllByRecursion EndsInStamp self.now }
-        ensures flows { AllByRecursion (λ s. IfSome s.flow (λ flow. flow < 2 ^ 16)) self.now }
+        ensures flows { AllByRecursion (λ s. IfSome s.flow IsFlow) self.now }
     {
         self.members.len()
     }

@@ -1,3 +1,6 @@
+// What a profile says before its values are looked at.
+
+use crate::flow::Flow;
 use crate::name::Name;
 use trex_sched::Mode;
 use trex_vars::Op;
@@ -26,8 +29,8 @@ pub struct RawStream {
     pub template: Vec<u8>,
     pub rate: RawRate,
     pub mode: Mode,
-    /// The flow number of the latency headers, where the stream has them.
-    pub flow: Option<u16>,
+    /// The flow of the packets, where they end in latency headers.
+    pub flow: Option<Flow>,
     /// At most 256.
     pub instrs: Vec<RawInstr>,
 }
@@ -52,11 +55,12 @@ pub struct RawRate {
 pub enum RawPlace {
     /// A byte of the packet, counted from 0.
     At(u64),
-    /// The first byte of the field of that name, as `IP.src`.
+    /// The first byte of the field of that name, as `IP.src` or `IPv6.src`.
     Named(Name),
 }
 
-/// What one instruction says, each default filled in. Sizes and casts are numbers of bytes: 1, 2, 4 or 8.
+/// What one instruction says, each default filled in. Sizes and casts are numbers of bytes: 1, 2, 4 or 8. A variable that restarts counts
+/// within a run of its stream, another one over all of its visits.
 #[derive(Debug, Drop)]
 pub enum RawInstr {
     /// A counter from `min` to `max` that begins at `init`, or random numbers of that range.
@@ -68,6 +72,7 @@ pub enum RawInstr {
         min: u64,
         max: u64,
         step: u64,
+        restart: bool,
     },
     /// One of these values after another, or random ones of them.
     ListVar {
@@ -76,6 +81,7 @@ pub enum RawInstr {
         op: Op,
         step: u64,
         values: Vec<u64>,
+        restart: bool,
     },
     /// So many random numbers from `min` to `max`, over and over.
     RandLimit {
@@ -85,6 +91,7 @@ pub enum RawInstr {
         max: u64,
         limit: u64,
         seed: u64,
+        restart: bool,
     },
     /// Pairs of an IPv4 address and a port, over and over: so many, or all where the limit is 0. It gives two names, that of the
     /// address with `.ip` after its own and that of the port with `.port`.
@@ -95,6 +102,7 @@ pub enum RawInstr {
         port_min: u16,
         port_max: u16,
         limit: u32,
+        restart: bool,
     },
     /// Writes a variable and a number added to it.
     Write {
@@ -122,6 +130,12 @@ pub enum RawInstr {
     FixHw {
         l2: u64,
         l3: u64,
+        l4: u8,
+    },
+    /// Fixes the checksum of what stands behind the IPv6 header at `l2` (RFC 8200, section 8.1): where `l4` is 11 that of the UDP segment,
+    /// where it is 13 that of the TCP segment.
+    FixL6 {
+        l2: u64,
         l4: u8,
     },
     /// Cuts the packet to the bytes that a variable says.

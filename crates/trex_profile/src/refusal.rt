@@ -1,3 +1,5 @@
+// The rule that is broken, and where.
+
 ghost use Rattle.std.specs.Prelude.{◌≡◌};
 
 use crate::rule::Rule;

@@ -1,3 +1,5 @@
+// The rules that a profile keeps.
+
 /// A rule that a profile keeps, named as its refusal is printed. The rules stand in the order in which they are looked at.
 #[derive(Clone, Copy, Debug, PartialEq, Eq)]
 pub enum Rule {

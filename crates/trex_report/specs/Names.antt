@@ -5,7 +5,7 @@ use Rattle.trex_profile.specs.declared.rule.Rule.TheVariants.{TooLong, NotJson, 
 use Rattle.trex_pcap.specs.declared.fault.CaptureFault.{CaptureFault}
 use Rattle.trex_pcap.specs.declared.fault.CaptureFault.TheVariants.{Torn, BadMagic, BadVersion, BadLink, TooMany, BadFraction, BadLength as TooManyBytes, Fault}
 use Rattle.trex_words.specs.declared.asked.OptionName.{OptionName}
-use Rattle.trex_words.specs.declared.asked.OptionName.TheVariants.{Duration, Limit, Cores, Base, Seed, Streams}
+use Rattle.trex_words.specs.declared.asked.OptionName.TheVariants.{Duration, Limit, Cores, Base, Seed, Streams, Loss, Copy, Delay}
 
 -- a rule
 abbrev pub rule_name : Rule → List ℕ
@@ -63,6 +63,9 @@ option_name Cores = codes "cores"
 option_name Base = codes "base"
 option_name Seed = codes "seed"
 option_name Streams = codes "streams"
+option_name Loss = codes "loss"
+option_name Copy = codes "copy"
+option_name Delay = codes "delay"
 
 -- a fault of a capture
 abbrev pub fault_name : CaptureFault → List ℕ

@@ -13,7 +13,7 @@ use Rattle.trex_words.specs.declared.asked.Usage.{Usage}
 use Rattle.trex_words.specs.declared.asked.Usage.TheVariants.{NoCommand, UnknownCommand, UnknownOption, Repeated, NoValue, BadNumber, OutOfRange, Missing}
 use Rattle.trex_report.specs.declared.report.Tally.{Tally}
 use Rattle.trex_report.specs.declared.line.Line.{Line}
-use Rattle.trex_report.specs.declared.line.Line.TheVariants.{Accepted, Usage as UsageLine, Refused, BadCapture, ReadFault, WriteFault, OutOfMemory, Sample}
+use Rattle.trex_report.specs.declared.line.Line.TheVariants.{Accepted, Usage as UsageLine, Refused, BadCapture, ReadFault, WriteFault, OutOfMemory, Sample, Wire}
 use Rattle.trex_report.specs.Names.{fault_name, rule_name, option_name}
 
 -- how many packets, and of how many bytes
@@ -131,6 +131,15 @@ sample_line seed streams packets bytes sum =
     ++ codes " sum " ++ hex sum
     ++ codes "\n"
 
+-- the numbers of a wire: how many records were sent, lost and copied, and how many copies arrived
+unfoldable pub wire_line : ℕ → ℕ → ℕ → ℕ → List ℕ
+wire_line sent lost copied arrived =
+    codes "wire sent " ++ decimal sent
+    ++ codes " lost " ++ decimal lost
+    ++ codes " copied " ++ decimal copied
+    ++ codes " arrived " ++ decimal arrived
+    ++ codes "\n"
+
 -- a line by itself
 abbrev pub line_text : Line → List ℕ
 line_text (Accepted streams) = accepted_line streams
@@ -141,3 +150,4 @@ line_text ReadFault = codes "read fault\n"
 line_text WriteFault = codes "write fault\n"
 line_text OutOfMemory = codes "out of memory\n"
 line_text (Sample seed streams packets bytes sum) = sample_line seed streams packets bytes sum
+line_text (Wire sent lost copied arrived) = wire_line sent lost copied arrived

@@ -1,3 +1,5 @@
+// The lines on what is counted of a capture.
+
 ghost use Rattle.std.specs.Prelude.{◌≡◌, List};
 ghost use Rattle.trex_io.specs.Seen.{Seen};
 ghost use Rattle.trex_io.specs.Texts.{Writes};

@@ -1,3 +1,5 @@
+// A line that is gathered on the stack: its texts and numbers in order, and then its bytes.
+
 ghost use Rattle.std.specs.Prelude.{◌≡◌, ◌+◌, ◌≤◌, ◌++◌, [], length};
 
 use itoa::{Buffer, Integer};

@@ -1,4 +1,4 @@
-// The texts that are printed: the report, the lines of flows, and the line of each answer.
+//! The texts that are printed: the report, the lines of flows, and the line of each answer.
 #![tactic(auto)]
 
 mod capture;
@@ -12,6 +12,7 @@ mod sample;
 #[cfg(test)]
 mod tests;
 mod usage;
+mod wire;
 
 pub use capture::write_bad_capture;
 pub use flows::write_flows;

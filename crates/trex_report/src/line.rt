@@ -1,3 +1,5 @@
+// The lines that are printed by themselves.
+
 ghost use Rattle.trex_io.specs.Texts.{Writes};
 ghost use Rattle.trex_report.specs.Texts.{accepted_line, line_text};
 
@@ -5,6 +7,7 @@ use crate::capture::write_bad_capture;
 use crate::refusal::write_refusal;
 use crate::sample::write_sample;
 use crate::usage::write_usage;
+use crate::wire::write_wire;
 use itoa::Buffer;
 use trex_io::{Failed, Sink, write_all, write_pieces};
 use trex_pcap::CaptureFault;
@@ -38,6 +41,14 @@ pub enum Line {
         packets: u64,
         bytes: u64,
         sum: u16,
+    },
+    /// What a simulated wire did: how many records it was sent, how many of them it lost and how many it copied, and how many copies
+    /// arrived.
+    Wire {
+        sent: u64,
+        lost: u64,
+        copied: u64,
+        arrived: u64,
     },
 }
 
@@ -76,5 +87,11 @@ pub fn write_line<O: Sink>(to: &mut O, which: Line) -> Result<(), Failed>
             bytes,
             sum,
         } => write_sample(to, seed, streams, packets, bytes, sum),
+        Line::Wire {
+            sent,
+            lost,
+            copied,
+            arrived,
+        } => write_wire(to, sent, lost, copied, arrived),
     }
 }

@@ -1,3 +1,5 @@
+// Names, as they are printed.
+
 ghost use Rattle.std.specs.Prelude.{◌≡◌};
 ghost use Rattle.trex_report.specs.Names.{fault_name, rule_name, option_name};
 
@@ -69,6 +71,9 @@ pub(crate) fn option_name(option: OptionName) -> &'static str
         OptionName::Base => "base",
         OptionName::Seed => "seed",
         OptionName::Streams => "streams",
+        OptionName::Loss => "loss",
+        OptionName::Copy => "copy",
+        OptionName::Delay => "delay",
     }
 }
 

@@ -1,3 +1,5 @@
+// The line on a profile that breaks a rule.
+
 ghost use Rattle.trex_io.specs.Texts.{Writes};
 ghost use Rattle.trex_report.specs.Texts.{refusal_line};
 

@@ -1,3 +1,5 @@
+// The report on a run.
+
 ghost use Rattle.std.specs.Prelude.{◌≡◌, sum_by};
 ghost use Rattle.std.specs.List.{flat_map};
 ghost use Rattle.trex_io.specs.Texts.{Writes};

@@ -1,3 +1,5 @@
+// The line on a sample.
+
 ghost use Rattle.std.specs.Prelude.{◌≡◌, ◌<◌};
 ghost use Rattle.trex_io.specs.Texts.{Writes};
 ghost use Rattle.trex_report.specs.Texts.{hex_digit, hex, sample_line};

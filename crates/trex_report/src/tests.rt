@@ -1,3 +1,5 @@
+// Lines with their numbers, and sinks that fail.
+
 use super::*;
 use std::alloc::Global;
 use std::test::Fail;

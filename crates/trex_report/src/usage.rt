@@ -1,3 +1,5 @@
+// The line on command words without a meaning.
+
 ghost use Rattle.trex_io.specs.Texts.{Writes};
 ghost use Rattle.trex_report.specs.Texts.{placed_line, missing_line, usage_line};
 

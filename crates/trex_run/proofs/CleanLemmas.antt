@@ -1,5 +1,5 @@
 -- What is read of a run's capture: the packets of a stream with a flow came as they were sent.
-use Rattle.std.proofs.Common.{◌≡◌, ℕ, zero, suc, ◌+◌, ◌*◌, ◌%◌, ◌^◌, ◌==◌, ◌<◌, ◌≤◌, Bool, true, false, cond, List, [], ◌∷◌, ◌++◌, length, map, take, slice_get, Option, None, Some, option_map, IfSome, inl, inr, refl, sym, ap, ◌∙◌, subst, arith}
+use Rattle.std.proofs.Common.{◌≡◌, ◌≢◌, ℕ, zero, suc, ◌+◌, ◌*◌, ◌/◌, ◌^◌, ◌==◌, ◌<◌, ◌≤◌, Bool, true, false, cond, List, [], ◌∷◌, ◌++◌, length, map, take, slice_get, Option, None, Some, option_map, IfSome, inl, inr, refl, sym, ap, ◌∙◌, subst, arith}
 use Rattle.std.proofs.Math.Nat.{mod-eq_of_lt}
 use Rattle.std.proofs.lemmas.Bool.{cases_Bool}
 use Rattle.std.proofs.lemmas.Bool.Decides.{nat_tests}
@@ -8,12 +8,17 @@ use Rattle.std.specs.Option.{option_map_or}
 use Rattle.trex_core.specs.Plan.{frame_at, packet_bytes}
 use Rattle.trex_io.specs.Seen.{Seen}
 use Rattle.trex_pcap.specs.Writing.{AllFit, seen_of}
+use Rattle.trex_profile.specs.declared.flow.Flow.{Flow}
+use Rattle.trex_profile.specs.Flow.{IsFlow, sequence_of, stamp_with}
 use Rattle.trex_profile.specs.Packets.{EndsInStamp, packet_of}
 use Rattle.trex_profile.specs.Stream.{Stream}
+use Rattle.trex_profile.proofs.FlowLemmas.{stamp_with-fits}
 use Rattle.trex_sched.specs.declared.slot.Slot.{Slot}
 use Rattle.trex_sched.specs.Numbers.{AreNumbered, of_stream}
 use Rattle.trex_stamp.specs.declared.header.Stamp.{Stamp}
-use Rattle.trex_stamp.specs.Stamp.{stamp_bytes, stamp_of}
+use Rattle.trex_stamp.specs.declared.header.Version.{Version}
+use Rattle.trex_stamp.specs.declared.header.Version.TheVariants.{One, Two}
+use Rattle.trex_stamp.specs.Stamp.{IsStamp, stamp_bytes, stamp_of}
 use Rattle.trex_stats.specs.Counts.{arrival_in, arrivals, stamp_at as record_stamp, whole_stamp}
 use Rattle.trex_stats.specs.Laws.{AreAsSent}
 use Rattle.trex_run.specs.Capture.{packet_at, sent_of}
@@ -42,20 +47,16 @@ record_of p base slot = seen_of (packet_at base (frame_at p base slot))
 
 -- the bytes of a packet of a stream
 bytes_at : (p : List Stream) (base : ℕ) (slot : Slot) (s : Stream) → slice_get p slot.stream ≡ Some s
-    → packet_bytes p base slot ≡ packet_of s slot.number (base * 10 ^ 9 + slot.time)
+    → packet_bytes p base slot ≡ packet_of s slot.number slot.in_run (base * 10 ^ 9 + slot.time)
 unfolding packet_bytes
-bytes_at p base slot s at = ap (λ (o : Option Stream). option_map_or (λ s. packet_of s slot.number (base * 10 ^ 9 + slot.time)) o []) at
-
--- the latency header of a packet
-abbrev header : ℕ → ℕ → ℕ → Stamp
-header flow number time = record { flow = flow; sequence = number % 2 ^ 32; time = time }
+bytes_at p base slot s at = ap (λ (o : Option Stream). option_map_or (λ s. packet_of s slot.number slot.in_run (base * 10 ^ 9 + slot.time)) o []) at
 
 -- a packet of a stream with a flow ends in its header
-ends_in : (s : Stream) (flow number time : ℕ) → EndsInStamp s → s.flow ≡ Some flow
-    → (front : List ℕ) × (packet_of s number time ≡ front ++ stamp_bytes (header flow number time))
-ends_in s flow number time ends is =
-    let Goal : Option ℕ → Type 0 = λ o. IfSome (option_map (λ f. header f number time) o) (λ st. (front : List ℕ) × (packet_of s number time ≡ front ++ stamp_bytes st)) in
-    subst Goal is (ends number time)
+ends_in : (s : Stream) (flow : Flow) (number place time : ℕ) → EndsInStamp s → s.flow ≡ Some flow
+    → (front : List ℕ) × (packet_of s number place time ≡ front ++ stamp_bytes (stamp_with flow number time))
+ends_in s flow number place time ends is =
+    let Goal : Option Flow → Type 0 = λ o. IfSome (option_map (λ f. stamp_with f number time) o) (λ st. (front : List ℕ) × (packet_of s number place time ≡ front ++ stamp_bytes st)) in
+    subst Goal is (ends number place time)
 
 -- a whole packet's stamp is that at its end
 whole_is : (bytes : List ℕ) → whole_stamp bytes (length bytes) ≡ stamp_of bytes
@@ -65,25 +66,33 @@ whole_is bytes =
 
 -- what stamps are found again
 abbrev pub AreFound : Type 0
-AreFound = (s : Stamp) (front : List ℕ) → s.flow < 2 ^ 16 → s.sequence < 2 ^ 32 → s.time < 2 ^ 64 → stamp_of (front ++ stamp_bytes s) ≡ Some s
+AreFound = (s : Stamp) (front : List ℕ) → IsStamp s → (s.version ≡ Two → s.sequence / 2 ^ 48 ≢ 0xab01) → stamp_of (front ++ stamp_bytes s) ≡ Some s
+
+-- a number below 2^32 stands in either version's header as it is
+sequence-few : (version : Version) (number : ℕ) → number < 2 ^ 32 → sequence_of version number ≡ number
+sequence-few One number few = mod-eq_of_lt few
+sequence-few Two number few = refl
+
+-- a header of a flow holds such a number, and isn't taken for one of version 1
+header_found : (flow : Flow) (front : List ℕ) (number time : ℕ) → AreFound → IsFlow flow → number < 2 ^ 32 → time < 2 ^ 64
+    → stamp_of (front ++ stamp_bytes (stamp_with flow number time)) ≡ Some (record { version = flow.version; flow = flow.number; sequence = number; time = time })
+header_found flow front number time found is few early =
+    let same = sequence-few flow.version number few in
+    found (stamp_with flow number time) front (stamp_with-fits flow number time is (omega arith) early) (λ two begins. omega (arith, same, begins))
+    ∙ ap (λ n. Some (record { version = flow.version; flow = flow.number; sequence = n; time = time })) same
 
 -- a packet of the stream counts as it was sent
-own_arrival : (p : List Stream) (base flow : ℕ) (s : Stream) (slot : Slot) → AreFound → slice_get p slot.stream ≡ Some s → s.flow ≡ Some flow → flow < 2 ^ 16
+own_arrival : (p : List Stream) (base : ℕ) (flow : Flow) (s : Stream) (slot : Slot) → AreFound → slice_get p slot.stream ≡ Some s → s.flow ≡ Some flow → IsFlow flow
     → EndsInStamp s → slot.number < 2 ^ 32 → slot.time < 10 ^ 18 → base ≤ 3000000000
-    → arrival_in flow (record_of p base slot).time (record_stamp (record_of p base slot))
+    → arrival_in flow.number (record_of p base slot).time (record_stamp (record_of p base slot))
     ≡ Some (record { sequence = slot.number; sent = base * 10 ^ 9 + slot.time; came = base * 10 ^ 9 + slot.time })
-own_arrival p base flow s slot found at is small ends few early low =
+own_arrival p base flow s slot found at is flow_is ends few early low =
     let time = base * 10 ^ 9 + slot.time in
-    let h = header flow slot.number time in
-    let tail = ends_in s flow slot.number time ends is in
-    let number : slot.number % 2 ^ 32 ≡ slot.number = mod-eq_of_lt few in
-    let is_found : stamp_of (tail.0 ++ stamp_bytes h) ≡ Some h = found h tail.0 small (omega (arith, number)) (omega arith) in
-    let stamp : record_stamp (record_of p base slot) ≡ Some h =
-    whole_is (packet_bytes p base slot) ∙ ap stamp_of (bytes_at p base slot s at ∙ tail.1) ∙ is_found in
-    let same : (flow == flow) ≡ true = grind (arith, nat_tests) in
-    ap (arrival_in flow time) stamp
-    ∙ ap (λ (b : Bool). cond b (Some (record { sequence = slot.number % 2 ^ 32; sent = time; came = time })) None) same
-    ∙ ap (λ (n : ℕ). Some (record { sequence = n; sent = time; came = time })) number
+    let tail = ends_in s flow slot.number slot.in_run time ends is in
+    let stamp = whole_is (packet_bytes p base slot) ∙ ap stamp_of (bytes_at p base slot s at ∙ tail.1)
+    ∙ header_found flow tail.0 slot.number time found flow_is few (omega arith) in
+    let same : (flow.number == flow.number) ≡ true = grind (arith, nat_tests) in
+    ap (arrival_in flow.number time) stamp ∙ ap (λ (b : Bool). cond b (Some (record { sequence = slot.number; sent = time; came = time })) None) same
 
 -- a packet that doesn't spell the flow doesn't count for it
 other_arrival : (p : List Stream) (base flow : ℕ) (slot : Slot) → has_flow flow (frame_at p base slot) ≡ false
@@ -99,13 +108,13 @@ other_arrival p base flow slot apart =
 -- ---- all packets
 
 -- The packets of the flow are those of the stream, as they were sent.
-pub as_sent : (p : List Stream) (base position flow first : ℕ) (s : Stream) (slots : List Slot) → AreFound → slice_get p position ≡ Some s → s.flow ≡ Some flow
-    → flow < 2 ^ 16 → EndsInStamp s → base ≤ 3000000000 → AllByRecursion (λ slot. slot.time < 10 ^ 18) slots
-    → OwnsFlow position flow (map (frame_at p base) slots) → AreNumbered first (of_stream position slots) → first + length (of_stream position slots) ≤ 2 ^ 32
-    → AreAsSent first (arrivals (map (record_of p base) slots) flow)
-    × (length (arrivals (map (record_of p base) slots) flow) ≡ length (sent_of position (map (frame_at p base) slots)))
-as_sent p base position flow first s [] found at is small ends low early alone numbered few = (tt, refl)
-as_sent p base position flow first s (slot ∷ slots) found at is small ends low early alone numbered few =
+pub as_sent : (p : List Stream) (base position : ℕ) (flow : Flow) (first : ℕ) (s : Stream) (slots : List Slot) → AreFound → slice_get p position ≡ Some s → s.flow ≡ Some flow
+    → IsFlow flow → EndsInStamp s → base ≤ 3000000000 → AllByRecursion (λ slot. slot.time < 10 ^ 18) slots
+    → OwnsFlow position flow.number (map (frame_at p base) slots) → AreNumbered first (of_stream position slots) → first + length (of_stream position slots) ≤ 2 ^ 32
+    → AreAsSent first (arrivals (map (record_of p base) slots) flow.number)
+    × (length (arrivals (map (record_of p base) slots) flow.number) ≡ length (sent_of position (map (frame_at p base) slots)))
+as_sent p base position flow first s [] found at is flow_is ends low early alone numbered few = (tt, refl)
+as_sent p base position flow first s (slot ∷ slots) found at is flow_is ends low early alone numbered few =
     elim (cases_Bool (slot.stream == position)) [
       | inl own ↦
           let here : slot.stream ≡ position = grind (arith, nat_tests) in
@@ -114,11 +123,11 @@ as_sent p base position flow first s (slot ∷ slots) found at is small ends low
           let long : length (of_stream position (slot ∷ slots)) ≡ length (slot ∷ of_stream position slots) = ap length part in
           let all : AreNumbered first (slot ∷ of_stream position slots) = subst (AreNumbered first) part numbered in
           let number = all.0 in
-          let rest = as_sent p base position flow (first + 1) s slots found at is small ends low early.1 alone.1 all.1 (omega (arith, few, long)) in
-          let a = own_arrival p base flow s slot found (ap (slice_get p) here ∙ at) is small ends (omega (arith, few, long)) early.0 low in
-          let arrived : arrivals (map (record_of p base) (slot ∷ slots)) flow
-          ≡ record { sequence = slot.number; sent = base * 10 ^ 9 + slot.time; came = base * 10 ^ 9 + slot.time } ∷ arrivals (map (record_of p base) slots) flow =
-          ap (λ o. cons_option o (arrivals (map (record_of p base) slots) flow)) a in
+          let rest = as_sent p base position flow (first + 1) s slots found at is flow_is ends low early.1 alone.1 all.1 (omega (arith, few, long)) in
+          let a = own_arrival p base flow s slot found (ap (slice_get p) here ∙ at) is flow_is ends (omega (arith, few, long)) early.0 low in
+          let arrived : arrivals (map (record_of p base) (slot ∷ slots)) flow.number
+          ≡ record { sequence = slot.number; sent = base * 10 ^ 9 + slot.time; came = base * 10 ^ 9 + slot.time } ∷ arrivals (map (record_of p base) slots) flow.number =
+          ap (λ o. cons_option o (arrivals (map (record_of p base) slots) flow.number)) a in
           let sent : sent_of position (map (frame_at p base) (slot ∷ slots)) ≡ frame_at p base slot ∷ sent_of position (map (frame_at p base) slots) =
           ap (λ (b : Bool). cond b (frame_at p base slot ∷ sent_of position (map (frame_at p base) slots)) (sent_of position (map (frame_at p base) slots))) own in
           (subst (AreAsSent first) (sym arrived) (number, refl, rest.0), ap length arrived ∙ ap suc rest.1 ∙ sym (ap length sent))
@@ -126,10 +135,10 @@ as_sent p base position flow first s (slot ∷ slots) found at is small ends low
           let apart : ¬ (slot.stream ≡ position) = grind (arith, nat_tests) in
           let part : of_stream position (slot ∷ slots) ≡ of_stream position slots =
           ap (λ (b : Bool). cond b (slot ∷ of_stream position slots) (of_stream position slots)) other in
-          let rest = as_sent p base position flow first s slots found at is small ends low early.1 alone.1 (subst (AreNumbered first) part numbered)
+          let rest = as_sent p base position flow first s slots found at is flow_is ends low early.1 alone.1 (subst (AreNumbered first) part numbered)
           (omega (arith, few, ap length part)) in
-          let arrived : arrivals (map (record_of p base) (slot ∷ slots)) flow ≡ arrivals (map (record_of p base) slots) flow =
-          ap (λ o. cons_option o (arrivals (map (record_of p base) slots) flow)) (other_arrival p base flow slot (alone.0 apart)) in
+          let arrived : arrivals (map (record_of p base) (slot ∷ slots)) flow.number ≡ arrivals (map (record_of p base) slots) flow.number =
+          ap (λ o. cons_option o (arrivals (map (record_of p base) slots) flow.number)) (other_arrival p base flow.number slot (alone.0 apart)) in
           let sent : sent_of position (map (frame_at p base) (slot ∷ slots)) ≡ sent_of position (map (frame_at p base) slots) =
           ap (λ (b : Bool). cond b (frame_at p base slot ∷ sent_of position (map (frame_at p base) slots)) (sent_of position (map (frame_at p base) slots))) other in
           (subst (AreAsSent first) (sym arrived) rest.0, ap length arrived ∙ rest.1 ∙ sym (ap length sent))

@@ -27,15 +27,15 @@ use Rattle.trex_run.proofs.RoundsLemmas.{tell_nothing, tell_on}
 
 -- no packet of a stream is longer than the longest
 abbrev pub IsShortStream : Stream → Type 0
-IsShortStream s = (number time : ℕ) → length (packet_of s number time) ≤ 9216
+IsShortStream s = (number place time : ℕ) → length (packet_of s number place time) ≤ 9216
 
 -- no packet of a profile is longer than the longest
 pub short_at : (p : List Stream) (base : ℕ) (slot : Slot) → AllByRecursion IsShortStream p → length (packet_bytes p base slot) ≤ 9216
 unfolding packet_bytes
 short_at p base slot short =
-    (elim (slice_get p slot.stream) as (λ o. slice_get p slot.stream ≡ o → length (option_map_or (λ s. packet_of s slot.number (base * 10 ^ 9 + slot.time)) o []) ≤ 9216) [
+    (elim (slice_get p slot.stream) as (λ o. slice_get p slot.stream ≡ o → length (option_map_or (λ s. packet_of s slot.number slot.in_run (base * 10 ^ 9 + slot.time)) o []) ≤ 9216) [
       | None ↦ λ any. omega arith
-      | Some s ↦ λ at. all_get IsShortStream p slot.stream s short at slot.number (base * 10 ^ 9 + slot.time)
+      | Some s ↦ λ at. all_get IsShortStream p slot.stream s short at slot.number slot.in_run (base * 10 ^ 9 + slot.time)
     ]) refl
 
 slots_short : (p : List Stream) (base : ℕ) (slots : List Slot) → AllByRecursion IsShortStream p

@@ -5,7 +5,7 @@ use Rattle.std.specs.Option.{option_map_or}
 use Rattle.trex_merge.specs.Frames.{Frame}
 use Rattle.trex_stamp.specs.Stamp.{stamp_of}
 
--- a packet ends in a latency header of the flow
+-- a packet ends in a latency header of the flow, of either version
 abbrev pub has_flow : ℕ → Frame → Bool
 has_flow flow frame = option_map_or (λ stamp. stamp.flow == flow) (stamp_of frame.bytes) false
 

@@ -3,11 +3,12 @@ use Rattle.std.proofs.Common.{◌≡◌, ℕ, ◌+◌, List, [], ◌∷◌, ◌+
 use Rattle.std.specs.List.{range_with_len}
 use Rattle.std.proofs.lemmas.List.{map-append}
 use Rattle.std.proofs.lemmas.List.FromFn.{map-range_with_len_more}
-use Rattle.trex_profile.specs.declared.admission.AdmitFault.{AdmitFault}
-use Rattle.trex_profile.specs.declared.admission.AdmitFault.TheVariants.{Refused}
+use Rattle.trex_profile.specs.declared.fault.Fault.{Fault}
+use Rattle.trex_profile.specs.declared.fault.Fault.TheVariants.{Refused}
 use Rattle.trex_profile.specs.declared.raw.RawStream.{RawStream}
 use Rattle.trex_profile.specs.declared.refusal.Refusal.{Refusal}
-use Rattle.trex_profile.specs.Admission.{refusal_of, admitted, Fails}
+use Rattle.trex_profile.specs.Admission.{refusal_of, admitted}
+use Rattle.trex_profile.specs.Answer.{Fails}
 use Rattle.trex_profile.specs.Order.{first_each, unless}
 use Rattle.trex_profile.specs.Refusal.{in_stream}
 use Rattle.trex_profile.specs.Rules.{value_refusal}
@@ -24,9 +25,9 @@ sample-kept seed n =
     rw values (rw (several-kept seed n))
 
 -- so it isn't refused
-pub not-refused : (seed n : ℕ) (streams : List Stream) (fault : AdmitFault) (r : Refusal) → streams ≡ sampled seed n → fault ≡ Refused r → Fails fault (admitted streams) → ⊥
+pub not-refused : (seed n : ℕ) (streams : List Stream) (fault : Fault Refusal) (r : Refusal) → streams ≡ sampled seed n → fault ≡ Refused r → Fails fault (admitted streams) → ⊥
 not-refused seed n streams fault r are is fails =
-    let refused : admitted streams ≡ Err r = subst (λ (f : AdmitFault). Fails f (admitted streams)) is fails in
+    let refused : admitted streams ≡ Err r = subst (λ (f : Fault Refusal). Fails f (admitted streams)) is fails in
     let kept : refusal_of streams ≡ None = ap refusal_of are ∙ sample-kept seed n in
     let given : admitted streams ≡ Ok streams = ap (λ broken. unless broken streams) kept in
     cc

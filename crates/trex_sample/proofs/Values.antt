@@ -1,9 +1,7 @@
 -- A stream of the sample breaks no rule on its values.
-use Rattle.std.proofs.Common.{◌≡◌, ℕ, ◌+◌, ◌*◌, ◌%◌, ◌^◌, ◌==◌, ◌≤◌, Bool, true, false, nat_le, nat_lt, List, length, None, refl, arith}
+use Rattle.std.proofs.Common.{◌≡◌, ℕ, ◌+◌, ◌-◌, ◌*◌, ◌%◌, ◌^◌, ◌==◌, ◌≤◌, Bool, true, false, nat_le, nat_lt, List, length, None, refl, arith}
 use Rattle.std.proofs.lemmas.Bool.Decides.{nat_tests}
 use Rattle.trex_layers.specs.declared.sizes.TheConstants.{LONGEST_PACKET}
-use Rattle.trex_layers.specs.Layers.{parsed}
-use Rattle.trex_layers.specs.declared.places.Layers.{Layers}
 use Rattle.trex_profile.specs.InstrRules.{names_rules, length_rules, place_rules, does_rules}
 use Rattle.trex_profile.specs.Rules.{no_packets, length_wrong, numerator, time_rules, value_rules}
 use Rattle.trex_profile.specs.Steps.{variables_from, steps_of}
@@ -22,21 +20,22 @@ some-packets kind size = by_tests (kind % 3 == 0) (kind % 3 == 1) refl refl
     by_tests false false is other = rw is (rw other (grind (arith, nat_tests)))
 
 -- no rule on the names of the sample's instructions is broken
-names-kept : (layers : Layers) (seed : ℕ) → names_rules layers seed instructions ≡ None
+names-kept : (bytes : List ℕ) (seed : ℕ) → names_rules bytes seed instructions ≡ None
 unfolding names_rules
-names-kept layers seed = refl
+names-kept bytes seed = refl
 
 -- no rule on what they do is broken, where the template has the headers
-does-kept : (layers : Layers) (seed : ℕ) (bytes : List ℕ) → IsHeaded bytes
-    → does_rules (variables_from seed 0 instructions) bytes false (steps_of layers instructions) ≡ None
+does-kept : (seed : ℕ) (bytes : List ℕ) → IsHeaded bytes
+    → does_rules (variables_from seed 0 instructions) bytes None (steps_of bytes instructions) ≡ None
 unfolding does_rules length_rules place_rules
-does-kept layers seed bytes headed =
+does-kept seed bytes headed =
     let long : 42 ≤ length bytes = headed.long in
     let address : nat_lt (length bytes) 30 ≡ false = grind (arith, nat_tests) in
     let port : nat_lt (length bytes) 36 ≡ false = grind (arith, nat_tests) in
     let header : nat_le 34 (length bytes) ≡ true = grind (arith, nat_tests) in
     let segment : nat_le 42 (length bytes) ≡ true = grind (arith, nat_tests) in
-    simp (address, port, header, segment, headed.version, headed.protocol)
+    let room : length bytes - 0 ≡ length bytes = omega arith in
+    simp (room, address, port, header, segment, headed.version, headed.protocol)
 
 -- no rule on times is broken
 times-kept : (s : Stream) → length_wrong s.template ≡ false → (s.rate.value == 0) ≡ false → nat_lt (numerator s) s.rate.value ≡ false → no_packets s.mode ≡ false
@@ -67,6 +66,6 @@ values-kept seed j =
     let times : time_rules (sampled_stream seed j) ≡ None =
     times-kept (sampled_stream seed j) (right-length (template pad) headed) (positive (word seed (4 * j + 3))) (slow (word seed (4 * j + 3)))
     (some-packets (word seed (4 * j + 1)) (word seed (4 * j + 2))) in
-    let names : names_rules (parsed (template pad)) j instructions ≡ None = names-kept (parsed (template pad)) j in
-    let does = does-kept (parsed (template pad)) j (template pad) headed in
+    let names : names_rules (template pad) j instructions ≡ None = names-kept (template pad) j in
+    let does = does-kept j (template pad) headed in
     rw times (rw names (rw does))

@@ -1,5 +1,5 @@
 -- The profile of a sample: streams that a seed determines. Own.
-use Rattle.std.specs.Prelude.{ℕ, ◌+◌, ◌*◌, ◌%◌, ◌^◌, ◌==◌, pos, true, if◌then◌else◌, codes, List, [], ◌∷◌, map, None}
+use Rattle.std.specs.Prelude.{ℕ, ◌+◌, ◌*◌, ◌%◌, ◌^◌, ◌==◌, pos, true, false, if◌then◌else◌, codes, List, [], ◌∷◌, map, None}
 use Rattle.std.specs.List.{range_with_len}
 use Rattle.trex_vars.specs.Value.{word_at}
 use Rattle.trex_vars.specs.declared.spec.Op.TheVariants.{Inc, Random}
@@ -26,9 +26,9 @@ mode_by kind size =
 -- are fixed.
 abbrev pub instructions : List Instruction
 instructions =
-    FlowVar (codes "src") 4 Inc 268435457 268435457 268435710 1
+    FlowVar (codes "src") 4 Inc 268435457 268435457 268435710 1 false
     ∷ Write (codes "src") (At 26) (pos 0) true
-    ∷ FlowVar (codes "port") 2 Random 1024 1024 65535 1
+    ∷ FlowVar (codes "port") 2 Random 1024 1024 65535 1 false
     ∷ Write (codes "port") (At 34) (pos 0) true
     ∷ FixHw 14 20 11
     ∷ []

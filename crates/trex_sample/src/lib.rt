@@ -1,4 +1,4 @@
-// The sample: a profile that a seed determines.
+//! The sample: a profile that a seed determines.
 #![tactic(auto)]
 
 mod laws;

@@ -1,3 +1,5 @@
+// The profile of a sample.
+
 ghost use Rattle.std.specs.Prelude.{◌≡◌, ◌≤◌, IfOk, map};
 ghost use Rattle.trex_profile.specs.Admission.{IsRawProfile};
 ghost use Rattle.trex_profile.specs.Stream.{raw_stream};

@@ -66,6 +66,7 @@ fn instructions(alloc: Global) -> Result<Vec<RawInstr>, Memory>
         min: 268_435_457,
         max: 268_435_710,
         step: 1,
+        restart: false,
     })?;
     instrs.push(write(alloc, "src", SOURCE_ADDRESS)?)?;
     instrs.push(RawInstr::FlowVar {
@@ -76,6 +77,7 @@ fn instructions(alloc: Global) -> Result<Vec<RawInstr>, Memory>
         min: 1024,
         max: 65535,
         step: 1,
+        restart: false,
     })?;
     instrs.push(write(alloc, "port", SOURCE_PORT)?)?;
     instrs.push(RawInstr::FixHw {

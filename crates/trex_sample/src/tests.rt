@@ -1,3 +1,5 @@
+// Samples against words, headers and streams that another program worked out.
+
 use crate::sample_profile;
 use crate::template::template;
 use crate::word::word;
@@ -5,7 +7,7 @@ use std::test::Fail;
 use trex_sched::{Mode, Period};
 use trex_vars::VarSpec;
 
-// the words of PCG XSL RR 128/64 with these states and stream 0, worked out by another program
+/// The words of PCG XSL RR 128/64 with these states and stream 0 were worked out by another program.
 #[test]
 fn the_words_are_those_of_the_generator(rt: HostRuntime) {
     for (seed, number, wanted) in [
@@ -21,7 +23,7 @@ fn the_words_are_those_of_the_generator(rt: HostRuntime) {
     }
 }
 
-// the IPv4 checksum of a total length of 48 is 3abc, the UDP checksum of a segment of 28 bytes bba7
+/// The IPv4 checksum of a total length of 48 is 3abc, and the UDP checksum of a segment of 28 bytes is bba7.
 #[test]
 fn a_template_has_its_lengths_and_checksums(rt: HostRuntime) -> Result<(), Fail> {
     let rows: [(u16, [u8; 2], [u8; 2], [u8; 2], [u8; 2]); 3] = [
@@ -87,7 +89,7 @@ fn a_template_has_its_lengths_and_checksums(rt: HostRuntime) -> Result<(), Fail>
     Ok(())
 }
 
-// pads, rates and modes by the words of seed 1, worked out by another program
+/// Pads, rates and modes by the words of seed 1 were worked out by another program.
 #[test]
 fn a_seed_gives_its_streams(rt: HostRuntime) -> Result<(), Fail> {
     let rows = [

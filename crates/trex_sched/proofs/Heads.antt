@@ -9,6 +9,7 @@ use Rattle.std.specs.List.{AllByRecursion, slice_get}
 use Rattle.std.specs.List.Sorted.{IsPermutation}
 use Rattle.std.specs.declared.cmp.Reverse.{Reverse}
 use Rattle.trex_merge.specs.Order.{BeginsNotBefore, is_before}
+use Rattle.trex_merge.proofs.FeedLemmas.{slice_get-set_other}
 use Rattle.trex_sched.specs.declared.head.Head.{Head}
 use Rattle.trex_sched.specs.declared.slot.Slot.{Slot}
 use Rattle.trex_sched.specs.Entries.{key_of}
@@ -16,15 +17,7 @@ use Rattle.trex_sched.specs.Heads.{AreHeads, compare_heads, head_of, heads_at, I
 
 -- ---- places of a list
 
--- after a write the other places are as they were
-pub get-set_other : {X : Type 0} (xs : List X) (p q : ℕ) (y : X) → q ≢ p → slice_get (set xs p y) q ≡ slice_get xs q
-get-set_other [] p q y apart = refl
-get-set_other (x ∷ xs) zero zero y apart = absurd (apart refl)
-get-set_other (x ∷ xs) zero (suc q) y apart = refl
-get-set_other (x ∷ xs) (suc p) zero y apart = refl
-get-set_other (x ∷ xs) (suc p) (suc q) y apart = get-set_other xs p q y (λ e. apart (ap suc e))
-
--- and the place has what was written
+-- the place of a write has what was written
 pub get-set_same : {X : Type 0} (xs : List X) (p : ℕ) (x y : X) → slice_get xs p ≡ Some x → slice_get (set xs p y) p ≡ Some y
 get-set_same [] p x y there = absurd cc
 get-set_same (a ∷ xs) zero x y there = refl
@@ -115,7 +108,7 @@ heads_shuffled lists xs ys moved known =
 head-set : (lists : List (List Slot)) (place : ℕ) (list : List Slot) (head : Reverse Head) → head.0.place ≢ place
     → IsHeadIn lists head.0 → IsHeadIn (set lists place list) head.0
 head-set lists place list head apart mine =
-    record { slot = mine.slot; rest = mine.rest; there = get-set_other lists place head.0.place list apart ∙ mine.there; is = mine.is }
+    record { slot = mine.slot; rest = mine.rest; there = slice_get-set_other lists place head.0.place list apart ∙ mine.there; is = mine.is }
 
 -- so do all, where none stands for the place
 heads-set : (lists : List (List Slot)) (place : ℕ) (list : List Slot) (heads : List (Reverse Head)) → heads_at place heads ≡ 0
@@ -142,7 +135,7 @@ head_goes lists head heads known =
             | inr apart ↦
                 let c = count q in
                 let zero_here = stands_elsewhere q head (λ e. apart (sym e)) in
-                let some = known.all q slot rest (sym (get-set_other lists place q [] apart) ∙ there) in
+                let some = known.all q slot rest (sym (slice_get-set_other lists place q [] apart) ∙ there) in
                 omega arith
           ];
     }
@@ -189,7 +182,7 @@ head_comes lists heads place slot rest empty known =
           let c = count q in
           elim (here_or_not q place) [
             | inl same ↦ let h = subst (λ p. stands p head ≡ 1) (sym same) here in omega arith
-            | inr apart ↦ let some = known.all q other more (sym (get-set_other lists place q (slot ∷ rest) apart) ∙ there) in omega arith
+            | inr apart ↦ let some = known.all q other more (sym (slice_get-set_other lists place q (slot ∷ rest) apart) ∙ there) in omega arith
           ];
     }
 

@@ -5,15 +5,15 @@ use Rattle.trex_sched.specs.declared.slot.Slot.{Slot}
 use Rattle.trex_sched.specs.Chain.{Chain, IsChain}
 use Rattle.trex_sched.specs.Entries.{run_entries, share, slot_of}
 use Rattle.trex_sched.specs.Times.{HasPackets, offset, size}
-use Rattle.trex_sched.specs.ToCome.{IsMine, IsReached, rest_from}
-use Rattle.trex_sched.proofs.Coming.{rest_begins}
+use Rattle.trex_sched.specs.Remaining.{IsMine, IsReachable, rest_from}
+use Rattle.trex_sched.proofs.Remaining.{rest_begins}
 use Rattle.trex_sched.proofs.Offsets.{offset_spread}
 use Rattle.trex_sched.proofs.Reached.{has_packets, sent_before}
 use Rattle.trex_sched.proofs.Sent.{bound_of, entries_found, share_own, skip}
 use Rattle.trex_sched.proofs.Turns.{not_between, same_rest}
 
 -- the number of a packet and its place in its run are at most its time
-pub mine_small : (chain : Chain) (core cores d : ℕ) (run : Run) (slot : Slot) → IsChain chain → IsReached chain run → IsMine core cores d run slot
+pub mine_small : (chain : Chain) (core cores d : ℕ) (run : Run) (slot : Slot) → IsChain chain → IsReachable chain run → IsMine core cores d run slot
     → (slot.number ≤ slot.time) × (slot.in_run ≤ slot.time)
 mine_small chain core cores d run slot is reached mine =
     let time : slot.time ≡ run.start + offset run.leg slot.in_run = ap (λ (s : Slot). s.time) mine.is in

@@ -6,11 +6,11 @@ mod Strides
 mod Sent
 pub mod RunLemmas
 mod Reached
-mod Coming
+mod Remaining
 mod Later
 mod Pairs
 mod Heads
 mod Shares
-mod Rising
+mod EntryOrder
 mod Visits
 mod Numbered

@@ -18,13 +18,13 @@ use Rattle.trex_sched.specs.Entries.{entries, key_of, run_entries, slot_of}
 use Rattle.trex_sched.specs.Numbers.{AreNumbered, of_stream}
 use Rattle.trex_sched.specs.Runs.{runs}
 use Rattle.trex_sched.specs.Times.{HasPackets, size}
-use Rattle.trex_sched.specs.ToCome.{IsReached}
+use Rattle.trex_sched.specs.Remaining.{IsReachable}
 use Rattle.trex_sched.specs.Walks.{all_entries, HaveDistinctStreams}
 use Rattle.trex_sched.proofs.RunLemmas.{all_get}
 use Rattle.trex_sched.proofs.Offsets.{ends_together, offset_within}
 use Rattle.trex_sched.proofs.Pairs.{all_kept, all_more, all_range}
 use Rattle.trex_sched.proofs.Reached.{has_packets}
-use Rattle.trex_sched.proofs.Rising.{all_precede, all_reached, entries_distinct, entries_rising, entries_streams, one_place, Precedes}
+use Rattle.trex_sched.proofs.EntryOrder.{all_precede, all_reached, entries_distinct, entries_rising, entries_streams, one_place, Precedes}
 use Rattle.trex_sched.proofs.Sent.{bound_of, entries_found, entries_late, entries_past}
 use Rattle.trex_sched.proofs.Shares.{all_distinct, all_streams, apart_streams, legs_of, Name}
 use Rattle.trex_sched.proofs.Visits.{runs_visits}
@@ -68,7 +68,7 @@ run_whole d run (suc n) k bound early =
     omega (arith, one, rest)
 
 -- where a later run starts below the duration, it sends all its packets
-run_before : (chain : Chain) (d : ℕ) (run next : Run) → IsChain chain → IsReached chain run → Precedes run next → next.start < d
+run_before : (chain : Chain) (d : ℕ) (run next : Run) → IsChain chain → IsReachable chain run → Precedes run next → next.start < d
     → length (run_entries d run 0) ≡ unwrap_or (size run.leg) 0
 run_before chain d run next is reached p begun =
     let sized = ends_together run.leg.period run.leg.mode p.lasts p.ends in
@@ -125,7 +125,7 @@ packets_at (l ∷ legs) (suc place) leg s distinct at same =
     packets_at legs place leg s distinct.1 at same ∙ sym (ap (λ (b : Bool). cond b (unwrap_or (size l) 0) (packets_of legs s)) test)
 
 -- two runs of a chain have one place where they have one stream
-same_test : (chain : Chain) (a b : Run) → IsChain chain → IsReached chain a → IsReached chain b → (a.place == b.place) ≡ (a.leg.stream == b.leg.stream)
+same_test : (chain : Chain) (a b : Run) → IsChain chain → IsReachable chain a → IsReachable chain b → (a.place == b.place) ≡ (a.leg.stream == b.leg.stream)
 same_test chain a b is ra rb =
     elim (cases_Bool (a.place == b.place)) [
       | inl here ↦
@@ -143,7 +143,7 @@ same_test chain a b is ra rb =
           apart ∙ sym test
     ]
 
-same_count : (chain : Chain) (run : Run) (before : List Run) → IsChain chain → IsReached chain run → AllByRecursion (IsReached chain) before
+same_count : (chain : Chain) (run : Run) (before : List Run) → IsChain chain → IsReachable chain run → AllByRecursion (IsReachable chain) before
     → count_by (λ earlier. earlier.place == run.place) before ≡ count_by (is_of run.leg.stream) before
 same_count chain run [] is reached all = refl
 same_count chain run (a ∷ before) is reached all =
@@ -192,14 +192,14 @@ sent_own s d run rest own =
 
 -- The runs from one on, where those before it are counted.
 numbered_runs : (chain : Chain) (s m d : ℕ) (before after : List Run) → IsChain chain → runs chain d ≡ before ++ after
-    → AllByRecursion (IsReached chain) before → AllByRecursion (IsReached chain) after → EachPair Precedes after
-    → AllByRecursion (λ r. r.start < d) after → ((r : Run) → IsReached chain r → r.leg.stream ≡ s → unwrap_or (size r.leg) 0 ≡ m)
+    → AllByRecursion (IsReachable chain) before → AllByRecursion (IsReachable chain) after → EachPair Precedes after
+    → AllByRecursion (λ r. r.start < d) after → ((r : Run) → IsReachable chain r → r.leg.stream ≡ s → unwrap_or (size r.leg) 0 ≡ m)
     → AreNumbered (count_by (is_of s) before * m) (sent_of s d after)
 numbered_runs chain s m d before [] is listed past reached pairs begun packets = tt
 numbered_runs chain s m d before (run ∷ rest) is listed past reached pairs begun packets =
     let c = count_by (is_of s) before in
     let next = numbered_runs chain s m d (before ++ run ∷ []) rest is (listed ∙ append_assoc before run rest)
-    (all-append (IsReached chain) before (run ∷ []) past (reached.0, tt)) reached.1 pairs.1 begun.1 packets in
+    (all-append (IsReachable chain) before (run ∷ []) past (reached.0, tt)) reached.1 pairs.1 begun.1 packets in
     let count = count_push s before run in
     elim (cases_Bool (is_of s run)) [
       | inl own ↦

@@ -2,7 +2,8 @@
 use Rattle.std.proofs.Common.{◌≡◌, ℕ, zero, suc, ◌+◌, ◌<◌, ◌≤◌, Bool, true, false, cond, List, [], ◌∷◌, ◌++◌, map, refl, arith}
 use Rattle.std.specs.List.{AllByRecursion, filter, flat_map, range_with_len}
 use Rattle.trex_merge.specs.Order.{EachPair}
-use Rattle.trex_merge.proofs.ListLemmas.{all-append}
+use Rattle.trex_merge.proofs.ListLemmas.{all-append, pairs-append}
+use Rattle.trex_merge.proofs.OrderLemmas.{all_at}
 
 -- what holds of each element that passes holds of each element that is kept
 pub all_kept : {X : Type 0} (P : X → Type 0) (test : X → Bool) (xs : List X) → ((x : X) → test x ≡ true → P x) → AllByRecursion P (filter test xs)
@@ -32,8 +33,8 @@ pairs_more R S (a ∷ rest) leads pairs = (all_more (R a) (S a) rest (leads a) p
 -- between the elements of two lists
 pub pairs_append : {X : Type 0} (R : X → X → Type 0) (xs ys : List X) → EachPair R xs → EachPair R ys → AllByRecursion (λ x. AllByRecursion (R x) ys) xs
     → EachPair R (xs ++ ys)
-pairs_append R [] ys mine other across = other
-pairs_append R (a ∷ rest) ys mine other across = (all-append (R a) rest ys mine.0 across.0, pairs_append R rest ys mine.1 other across.1)
+pairs_append R xs ys mine other across =
+    pairs-append R xs ys mine other (λ x y here there. all_at (R x) ys y (all_at (λ x. AllByRecursion (R x) ys) xs x across here) there)
 
 -- between each number of a range and each later one
 pub pairs_range : {Y : Type 0} (R : Y → Y → Type 0) (f : ℕ → Y) (k n : ℕ) → ((i j : ℕ) → i < j → j < k + n → R (f i) (f j)) → EachPair R (map f (range_with_len k n))

@@ -10,7 +10,7 @@ use Rattle.trex_sched.specs.declared.run.Run.{Run}
 use Rattle.trex_sched.specs.Chain.{Chain, IsChain}
 use Rattle.trex_sched.specs.Runs.{run_after, run_at}
 use Rattle.trex_sched.specs.Times.{HasPackets, size}
-use Rattle.trex_sched.specs.ToCome.{back_of, IsReached, visits_of}
+use Rattle.trex_sched.specs.Remaining.{back_of, IsReachable, visits_of}
 use Rattle.trex_sched.proofs.Offsets.{size_pos}
 use Rattle.trex_sched.proofs.RunLemmas.{all_get, begins, follows, Follows, lasts_long}
 
@@ -26,7 +26,7 @@ visits_from run place over =
     ap (λ (b : Bool). cond b (run.visit + 1) run.visit) test
 
 -- the first run of a chain is reached
-pub reached_first : (chain : Chain) (t : ℕ) (run : Run) → run_at chain 0 0 t ≡ Some run → IsReached chain run
+pub reached_first : (chain : Chain) (t : ℕ) (run : Run) → run_at chain 0 0 t ≡ Some run → IsReachable chain run
 reached_first chain t run is =
     let b = begins chain 0 0 t run is in
     record {
@@ -39,7 +39,7 @@ reached_first chain t run is =
     }
 
 -- The leg of a run that goes by has been visited once more, and so much was sent.
-went_by : (chain : Chain) (run next : Run) (place : ℕ) (leg : Leg) → IsChain chain → IsReached chain run → (f : Follows chain run next)
+went_by : (chain : Chain) (run next : Run) (place : ℕ) (leg : Leg) → IsChain chain → IsReachable chain run → (f : Follows chain run next)
     → slice_get chain.legs place ≡ Some leg → back_of chain ≤ place → place ≤ run.place
     → (run.visit + 1) * unwrap_or (size leg) 0 ≤ run.start + f.lasts
 went_by chain run next place leg is reached f at after within =
@@ -61,7 +61,7 @@ went_by chain run next place leg is reached f at after within =
     ]
 
 -- the run after a run that is reached is reached
-pub reached_next : (chain : Chain) (run next : Run) → IsChain chain → IsReached chain run → run_after chain run ≡ Some next → IsReached chain next
+pub reached_next : (chain : Chain) (run next : Run) → IsChain chain → IsReachable chain run → run_after chain run ≡ Some next → IsReachable chain next
 reached_next chain run next is reached some =
     let f = follows chain run next some in
     elim f.went [
@@ -99,11 +99,11 @@ reached_next chain run next is reached some =
 
 -- ---- what a reached run keeps
 
-pub has_packets : (chain : Chain) (run : Run) → IsChain chain → IsReached chain run → HasPackets run.leg.mode
+pub has_packets : (chain : Chain) (run : Run) → IsChain chain → IsReachable chain run → HasPackets run.leg.mode
 has_packets chain run is reached = all_get (λ leg. HasPackets leg.mode) chain.legs run.place run.leg is.packets reached.at_place
 
 -- the packets of the leg's earlier visits are no more than the start
-pub sent_before : (chain : Chain) (run : Run) → IsChain chain → IsReached chain run → run.visit * unwrap_or (size run.leg) 0 ≤ run.start
+pub sent_before : (chain : Chain) (run : Run) → IsChain chain → IsReachable chain run → run.visit * unwrap_or (size run.leg) 0 ≤ run.start
 sent_before chain run is reached =
     elim (cases_lt run.place (back_of chain)) [
       | inl before ↦
@@ -117,7 +117,7 @@ sent_before chain run is reached =
     ]
 
 -- a visit of a run is no more than the run's start
-pub visit_small : (chain : Chain) (run : Run) → IsChain chain → IsReached chain run → run.visit ≤ run.start
+pub visit_small : (chain : Chain) (run : Run) → IsChain chain → IsReachable chain run → run.visit ≤ run.start
 visit_small chain run is reached =
     elim (size run.leg) as (λ o. size run.leg ≡ o → run.visit ≤ run.start) [
       | None ↦ λ never.
@@ -134,7 +134,7 @@ visit_small chain run is reached =
     ] refl
 
 -- the next run starts later
-pub start_rises : (chain : Chain) (run next : Run) → IsChain chain → IsReached chain run → run_after chain run ≡ Some next → run.start < next.start
+pub start_rises : (chain : Chain) (run next : Run) → IsChain chain → IsReachable chain run → run_after chain run ≡ Some next → run.start < next.start
 start_rises chain run next is reached some =
     let f = follows chain run next some in
     let long = lasts_long chain run next is reached.at_place f in

@@ -6,7 +6,7 @@ use Rattle.std.specs.List.{AllByRecursion, filter, slice_get}
 use Rattle.std.specs.Option.{option_map, option_and_then}
 use Rattle.trex_sched.specs.declared.run.Run.{Run}
 use Rattle.trex_sched.specs.Chain.{Chain, IsChain}
-use Rattle.trex_sched.specs.Runs.{later_runs, run_after, run_at, run_at_next, runs_from, stops}
+use Rattle.trex_sched.specs.Runs.{later_runs, run_after, run_at, run_at_next, runs_from, is_last_visit}
 use Rattle.trex_sched.specs.Times.{HasPackets, size, span}
 use Rattle.trex_sched.proofs.Offsets.{ends_together, run_ends}
 
@@ -57,7 +57,7 @@ pub record Follows (chain : Chain) (run next : Run) : Type 0 where
 
 pub follows : (chain : Chain) (run next : Run) → run_after chain run ≡ Some next → Follows chain run next
 follows chain run next is =
-    let after = through (λ lasts. run_at_next chain run.place run.visit (run.start + lasts)) (span run.leg) next (chosen (stops run) _ next is) in
+    let after = through (λ lasts. run_at_next chain run.place run.visit (run.start + lasts)) (span run.leg) next (chosen (is_last_visit run) _ next is) in
     let t = run.start + after.0 in
     elim (cases_lt (run.place + 1) (length chain.legs)) [
       | inl on ↦

@@ -7,7 +7,7 @@ use Rattle.trex_sched.specs.declared.run.Run.{Run}
 use Rattle.trex_sched.specs.declared.slot.Slot.{Slot}
 use Rattle.trex_sched.specs.Entries.{run_entries, share, slot_of}
 use Rattle.trex_sched.specs.Times.{below, HasPackets, offset, size}
-use Rattle.trex_sched.specs.ToCome.{IsMine}
+use Rattle.trex_sched.specs.Remaining.{IsMine}
 use Rattle.trex_sched.proofs.Offsets.{offset_rising}
 
 -- the number of packets that are looked at

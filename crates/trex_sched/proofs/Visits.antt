@@ -8,7 +8,7 @@ use Rattle.std.specs.List.{count_by, filter}
 use Rattle.trex_sched.specs.declared.run.Run.{Run}
 use Rattle.trex_sched.specs.Chain.{Chain, IsChain}
 use Rattle.trex_sched.specs.Runs.{later_runs, run_after, run_at, runs, runs_from}
-use Rattle.trex_sched.specs.ToCome.{back_of, IsReached}
+use Rattle.trex_sched.specs.Remaining.{back_of, IsReachable}
 use Rattle.trex_sched.proofs.RunLemmas.{begins, enough_runs, follows, kept_none, later_step, runs_none}
 use Rattle.trex_sched.proofs.Reached.{reached_first, reached_next}
 
@@ -17,7 +17,7 @@ tally : Chain → Run → ℕ → ℕ
 tally chain run place =
     cond (nat_le (back_of chain) place) (cond (nat_lt place run.place) (run.visit + 1) run.visit) (cond (nat_lt place run.place || nat_lt 0 run.visit) 1 0)
 
-tally_own : (chain : Chain) (run : Run) → IsReached chain run → tally chain run run.place ≡ run.visit
+tally_own : (chain : Chain) (run : Run) → IsReachable chain run → tally chain run run.place ≡ run.visit
 unfolding tally
 tally_own chain run reached =
     elim (cases_lt run.place (back_of chain)) [
@@ -25,7 +25,7 @@ tally_own chain run reached =
       | inr after ↦ grind (arith, nat_tests)
     ]
 
-tally_next : (chain : Chain) (run next : Run) (place : ℕ) → IsReached chain run → run_after chain run ≡ Some next → place < length chain.legs
+tally_next : (chain : Chain) (run next : Run) (place : ℕ) → IsReachable chain run → run_after chain run ≡ Some next → place < length chain.legs
     → tally chain next place ≡ cond (run.place == place) 1 0 + tally chain run place
 unfolding tally
 tally_next chain run next place reached some inside =
@@ -63,16 +63,16 @@ not_nothing [] run after same = cc
 not_nothing (b ∷ before) run after same = cc
 
 -- from a run on to a later one
-counted_from : (chain : Chain) (d : ℕ) (before after : List Run) (first run : Run) → IsChain chain → IsReached chain first
+counted_from : (chain : Chain) (d : ℕ) (before after : List Run) (first run : Run) → IsChain chain → IsReachable chain first
     → later_runs chain d (Some first) ≡ before ++ (run ∷ after)
-    → IsReached chain run
+    → IsReachable chain run
     × ((place : ℕ) → place < length chain.legs → tally chain run place ≡ count_by (λ earlier. earlier.place == place) before + tally chain first place)
 counted_from chain d [] after first run is reached listed =
     elim (cases_lt first.start d) [
       | inl early ↦
           let listed' = sym (later_step chain d first is reached.at_place early) ∙ listed in
           let same : first ≡ run = cc in
-          (subst (IsReached chain) same reached, λ place inside. ap (λ (r : Run). tally chain r place) (sym same) ∙ omega arith)
+          (subst (IsReachable chain) same reached, λ place inside. ap (λ (r : Run). tally chain r place) (sym same) ∙ omega arith)
       | inr over ↦ absurd (not_nothing [] run after (sym (kept_none chain d d first is reached.at_place over) ∙ listed))
     ]
 counted_from chain d (b ∷ before) after first run is reached listed =
@@ -81,7 +81,7 @@ counted_from chain d (b ∷ before) after first run is reached listed =
           let listed' = sym (later_step chain d first is reached.at_place early) ∙ listed in
           let same : first ≡ b = cc in
           let rest : later_runs chain d (run_after chain first) ≡ before ++ (run ∷ after) = cc in
-          (elim (run_after chain first) as (λ o. run_after chain first ≡ o → later_runs chain d o ≡ before ++ (run ∷ after) → IsReached chain run
+          (elim (run_after chain first) as (λ o. run_after chain first ≡ o → later_runs chain d o ≡ before ++ (run ∷ after) → IsReachable chain run
           × ((place : ℕ) → place < length chain.legs → tally chain run place ≡ count_by (λ earlier. earlier.place == place) (b ∷ before) + tally chain first place)) [
             | None ↦ λ none listed''. absurd (not_nothing before run after (sym (ap (filter (λ run. nat_lt run.start d)) (runs_none chain d)) ∙ listed''))
             | Some next ↦ λ some listed''.

@@ -1,3 +1,4 @@
+-- The chains that a schedule walks.
 use Rattle.std.specs.Prelude.{◌≡◌, ℕ, ◌+◌, ◌<◌, length, Option, None, Some, IfSome, List}
 use Rattle.std.specs.List.{AllByRecursion, slice_get}
 use Rattle.trex_sched.specs.declared.chain.Leg.{Leg}

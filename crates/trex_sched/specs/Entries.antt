@@ -1,9 +1,8 @@
 -- The packets that a chain sends (own).
-use Rattle.std.specs.Prelude.{ℕ, ◌+◌, ◌-◌, ◌*◌, ◌%◌, ◌==◌, nat_lt, List, take}
+use Rattle.std.specs.Prelude.{ℕ, ◌+◌, ◌-◌, ◌*◌, ◌%◌, ◌==◌, nat_lt, List}
 use Rattle.std.specs.List.{filter, flat_map, range_with_len}
 use Rattle.std.specs.Prelude.{map, unwrap_or}
 use Rattle.trex_merge.specs.declared.key.Key.{Key}
-use Rattle.trex_merge.specs.Order.{ordered}
 use Rattle.trex_sched.specs.declared.run.Run.{Run}
 use Rattle.trex_sched.specs.declared.slot.Slot.{Slot}
 use Rattle.trex_sched.specs.Chain.{Chain}
@@ -36,7 +35,3 @@ share core cores slots = filter (λ slot. slot.number % cores == core) slots
 -- what slots are ordered by
 abbrev pub key_of : Slot → Key
 key_of slot = record { time = slot.time; stream = slot.stream; number = slot.number }
-
--- the first slots in order, as many as the limit allows
-abbrev pub sequence : ℕ → List Slot → List Slot
-sequence limit slots = take limit (ordered key_of slots)

@@ -3,7 +3,7 @@ pub mod Chain
 pub mod Runs
 pub mod Entries
 pub mod Strides
-pub mod ToCome
+pub mod Remaining
 pub mod Heads
 pub mod Walks
 pub mod Numbers

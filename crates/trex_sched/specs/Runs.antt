@@ -17,14 +17,14 @@ run_at_next chain place visit t =
     if nat_lt (place + 1) (length chain.legs) then run_at chain (place + 1) visit t
     else option_and_then (λ back. run_at chain back (visit + 1) t) chain.back
 
--- The action count, where there is one, ends the chain.
-abbrev pub stops : Run → Bool
-stops run = not (run.leg.actions == 0) && (run.visit + 1 == run.leg.actions)
+-- the run is the last one of its chain, by its leg's action count
+abbrev pub is_last_visit : Run → Bool
+is_last_visit run = not (run.leg.actions == 0) && (run.visit + 1 == run.leg.actions)
 
--- The next run, where there is one: the run ends, the chain doesn't stop with it, and a leg follows.
+-- The next run, where there is one: the run ends, it isn't the chain's last visit, and a leg follows.
 abbrev pub run_after : Chain → Run → Option Run
 run_after chain run =
-    if stops run then None
+    if is_last_visit run then None
     else option_and_then (λ lasts. run_at_next chain run.place run.visit (run.start + lasts)) (span run.leg)
 
 -- the first n runs from a run on

@@ -1,3 +1,4 @@
+-- The times of one run.
 use Rattle.std.specs.Prelude.{ℕ, zero, suc, ◌+◌, ◌*◌, ◌/◌, ◌%◌, ◌^◌, ◌<◌, nat_lt, if◌then◌else◌, Option, None, Some}
 use Rattle.std.proofs.Math.Decide.{dec_lt, dec_le}
 use Rattle.std.proofs.Math.Logic.{dite}
@@ -48,13 +49,15 @@ offset_of period (SingleBurst total) k = burst_offset period k
 offset_of period (MultiBurst per_burst ibg count) k =
     (k / per_burst) * (burst_offset period per_burst + ibg) + burst_offset period (k % per_burst)
 
--- these of a leg
+-- the packets of one run of a leg, where it ends
 abbrev pub size : Leg → Option ℕ
 size leg = size_of leg.mode
 
+-- how long a run of a leg lasts, where it ends
 abbrev pub span : Leg → Option ℕ
 span leg = span_of leg.period leg.mode
 
+-- the time of packet k of a run of a leg, from the run's start
 abbrev pub offset : Leg → ℕ → ℕ
 offset leg k = offset_of leg.period leg.mode k
 

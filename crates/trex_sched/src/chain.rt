@@ -1,3 +1,5 @@
+// The streams that follow one another.
+
 use crate::{Mode, Period};
 
 /// A stream as a chain visits it.
@@ -7,7 +9,9 @@ pub struct Leg {
     pub stream: u32,
     /// The gap before each of its runs, in nanoseconds.
     pub isg: u64,
+    /// The time between two packets of a burst.
     pub period: Period,
+    /// How it sends its packets in each run.
     pub mode: Mode,
     /// After so many visits the chain stops; 0 where it doesn't.
     pub actions: u32,
@@ -16,6 +20,7 @@ pub struct Leg {
 /// The streams that follow one another from a stream that starts by itself.
 #[derive(Debug, Drop)]
 pub struct ChainSpec {
+    /// The streams in order, each once.
     pub legs: Vec<Leg>,
     /// The place in `legs` that follows the last leg, where one does.
     pub back: Option<u32>,

@@ -1,3 +1,5 @@
+// The heads of many walks, and their order.
+
 ghost use Rattle.std.specs.Prelude.{◌≡◌};
 ghost use Rattle.trex_sched.specs.Heads.{head_of};
 

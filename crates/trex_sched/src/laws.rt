@@ -44,6 +44,8 @@ pub fn entries_rise()
     // A packet's number is at most its time, and its time is below the duration.
     ensures numbers { (chain : Chain) (d : ℕ) → IsChain chain → AllByRecursion (λ slot. slot.number ≤ slot.time) (entries chain d) }
     ensures below { (chain : Chain) (d : ℕ) → AllByRecursion (λ slot. slot.time < d) (entries chain d) }
+    // Its place in its run is at most its number.
+    ensures places { (chain : Chain) (d : ℕ) → IsChain chain → AllByRecursion (λ slot. slot.in_run ≤ slot.number) (entries chain d) }
     // Their streams are those of the legs.
     ensures streams { (chain : Chain) (d : ℕ) → IsChain chain
         → AllByRecursion (λ slot. Has (map (λ leg. leg.stream) chain.legs) slot.stream) (entries chain d) }

@@ -1,4 +1,5 @@
-// The schedule: periods, the modes of streams, and the chains in which streams follow one another.
+//! The schedule: periods, the modes of streams, and the chains in which streams follow one another. `Walks` gives one core's packets of many
+//! chains: `peek` shows the next one, `next` passes it.
 #![tactic(auto)]
 
 mod chain;

@@ -1,3 +1,5 @@
+// How a stream sends its packets in a run.
+
 /// How a stream sends its packets in one run.
 #[derive(Clone, Copy, Debug, PartialEq, Eq)]
 pub enum Mode {

@@ -1,3 +1,5 @@
+// The time between two packets of a burst, and the times of a burst's packets.
+
 ghost use Rattle.std.specs.Prelude.{◌≡◌, ◌<◌, ◌≤◌, ◌^◌};
 
 /// The least numerator, in nanoseconds, that is too great for a period.
@@ -46,7 +48,7 @@ impl Period {
         u128::from(k) * self.num / self.den
     }
 
-    /// The same time, split.
+    /// The time of packet `k` of a burst, from the burst's start, split into whole nanoseconds and a rest.
     pub(crate) fn split(&self, k: u64) -> Split
         requires { k < 3 * 10 ^ 18 }
         ensures split { IsSplit self.now k result }
@@ -59,7 +61,7 @@ impl Period {
         }
     }
 
-    /// The time of the packet whose number is the sum of two packets' numbers.
+    /// The time of the packet whose number is the sum of the numbers of two packets with these times.
     pub(crate) fn later(&self, one: Split, other: Split) -> Split
         requires wholes { (one.whole < 2 ^ 126) × (other.whole < 2 ^ 126) }
         requires rests { (one.rest < self.now.den) × (other.rest < self.now.den) }

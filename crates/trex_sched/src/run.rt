@@ -1,3 +1,5 @@
+// A visit of a chain to a leg.
+
 use crate::Leg;
 
 /// One visit of a chain to a leg: one run of the leg's stream.
@@ -5,6 +7,7 @@ use crate::Leg;
 pub struct Run {
     /// The leg's place in the chain.
     pub place: usize,
+    /// The leg.
     pub leg: Leg,
     /// The number of earlier runs of the leg.
     pub visit: u64,

@@ -1,3 +1,5 @@
+// A packet of the schedule.
+
 use trex_merge::{Key, Keyed};
 
 /// One packet of the schedule.

@@ -4,16 +4,16 @@ ghost use Rattle.std.specs.Prelude.{◌≡◌, ◌+◌, ◌*◌, ◌%◌, ◌^�
 ghost use Rattle.std.specs.Option.{option_and_then};
 ghost use Rattle.trex_sched.specs.Chain.{chain_of};
 ghost use Rattle.trex_sched.specs.Entries.{run_entries, share};
-ghost use Rattle.trex_sched.specs.Runs.{run_after, run_at, run_at_next, run_below, stops as stops_with};
+ghost use Rattle.trex_sched.specs.Runs.{run_after, run_at, run_at_next, run_below, is_last_visit};
 ghost use Rattle.trex_sched.specs.Times.{HasPackets, size};
-ghost use Rattle.trex_sched.specs.ToCome.{IsMine, then_share};
+ghost use Rattle.trex_sched.specs.Remaining.{IsMine, rest_of_run};
 
 use crate::chain::ChainSpec;
 use crate::run::Run;
 use crate::slot::Slot;
 use crate::times::{offset_below, packets_in, span_below};
 
-/// The run of the leg at a place whose gap begins at time `t`, where it starts below the limit.
+/// The run of the leg at a place, where its gap begins at time `t`. None where there is no such leg or the run starts at the limit or later.
 pub(crate) fn begin(chain: &ChainSpec, place: usize, visit: u64, t: u64, limit: u64) -> Option<Run>
     requires { t ≤ limit }
     ensures { result ≡ option_and_then (run_below limit) (run_at (chain_of chain.now) place visit t) }
@@ -33,34 +33,35 @@ pub(crate) fn begin(chain: &ChainSpec, place: usize, visit: u64, t: u64, limit: 
     })
 }
 
-// The chain ends with this run, because its leg's action count is reached.
-fn stops(run: &Run) -> bool
+/// Whether the chain ends with this run, because its leg's action count is reached.
+fn is_last_visit(run: &Run) -> bool
     requires { run.now.visit < 2 ^ 63 }
-    ensures { result ≡ stops_with run.now }
+    ensures { result ≡ is_last_visit run.now }
 {
     run.leg.actions != 0 && run.visit + 1 == u64::from(run.leg.actions)
 }
 
-/// The run after a run, where there is one and it starts below the duration.
+/// The run after a run. None where the chain ends with it, or the next run starts at the duration or later.
 pub(crate) fn next_run(chain: &ChainSpec, run: &Run, duration: u64) -> Option<Run>
     requires visit { run.now.visit < 2 ^ 63 }
     requires begun { run.now.start < duration }
     requires duration { duration ≤ 10 ^ 18 }
     ensures { result ≡ option_and_then (run_below duration) (run_after (chain_of chain.now) run.now) }
 {
-    if stops(run) {
+    if is_last_visit(run) {
         return None;
     }
     let lasts = span_below(&run.leg.period, &run.leg.mode, duration - run.start)?;
     follow(chain, run, run.start + lasts, duration)
 }
 
-// The run after a run that ends at time `t`, where it starts below the duration.
+/// The run after a run that ends at time `t`. None where no leg follows, or the next run starts at the duration or later.
 fn follow(chain: &ChainSpec, run: &Run, t: u64, duration: u64) -> Option<Run>
     requires visit { run.now.visit < 2 ^ 63 }
     requires end { t ≤ duration }
     ensures { result ≡ option_and_then (run_below duration) (run_at_next (chain_of chain.now) run.now.place run.now.visit t) }
 {
+    // The first test keeps the sum of the second one from leaving its type.
     if run.place < chain.legs.len() && run.place + 1 < chain.legs.len() {
         return begin(chain, run.place + 1, run.visit, t, duration);
     }
@@ -70,7 +71,7 @@ fn follow(chain: &ChainSpec, run: &Run, t: u64, duration: u64) -> Option<Run>
     }
 }
 
-// The least number of steps from a number to one that leaves the core's number as the remainder.
+/// The least number of steps from a number to one that leaves the core's number as the remainder.
 fn steps_to(number: u64, core: u64, cores: u64) -> u64
     requires core { core < cores }
     requires cores { cores ≤ 64 }
@@ -86,7 +87,7 @@ fn steps_to(number: u64, core: u64, cores: u64) -> u64
     }
 }
 
-/// The core's first packet of a run from packet `from` on, where one is due below the duration.
+/// The core's first packet of a run from packet `from` on. None where none is due below the duration.
 pub(crate) fn next_in_run(
     run: &Run,
     core: u64,
@@ -101,7 +102,7 @@ pub(crate) fn next_in_run(
     requires begun { run.now.start < duration }
     requires before { run.now.visit * unwrap_or (size run.now.leg) 0 ≤ run.now.start }
     requires from { from ≤ 10 ^ 18 }
-    ensures rest { share core cores (run_entries duration run.now from) ≡ then_share core cores duration run.now result }
+    ensures rest { share core cores (run_entries duration run.now from) ≡ rest_of_run core cores duration run.now result }
     ensures mine { IfSome result (IsMine core cores duration run.now) }
 {
     let packets = packets_in(&run.leg.mode);

@@ -11,29 +11,29 @@ use crate::period::Split;
 use crate::run::Run;
 use crate::slot::Slot;
 
-// Where a packet of a run stands in its burst.
+/// Where a packet of a run stands in its burst.
 #[derive(Clone, Copy)]
 struct Place {
-    // The packet's number in the burst, from 0.
+    /// The packet's number in the burst, from 0.
     burst: u64,
-    // How many packets of the burst come after it.
+    /// How many packets of the burst come after it.
     left: u64,
 }
 
 /// A core's way through a burst, from the packet at which its walk stands.
 #[derive(Clone, Copy)]
 pub(crate) struct Stride {
-    // When the burst begins, in nanoseconds from the schedule's zero.
+    /// When the burst begins, in nanoseconds from the schedule's zero.
     start: u64,
-    // How many packets of the burst come after the one at which the walk stands.
+    /// How many packets of the burst come after the one at which the walk stands.
     left: u64,
-    // That packet's time from the burst's start.
+    /// The time of the packet at which the walk stands, from the burst's start.
     place: Split,
-    // The time of as many packets as there are cores.
+    /// The time of as many packets as there are cores.
     step: Split,
 }
 
-// Where packet `k` of a leg's run stands in its burst.
+/// Where packet `k` of a leg's run stands in its burst.
 fn place_of(leg: &Leg, k: u64) -> Place
     requires packets { HasPackets leg.now.mode }
     requires within { (n : ℕ) → size leg.now ≡ Some n → k < n }
@@ -63,7 +63,7 @@ fn place_of(leg: &Leg, k: u64) -> Place
     }
 }
 
-/// The stride from a packet of a run, where its core has a later packet in the burst.
+/// The stride from a packet of a run. None where its core has no later packet in the burst.
 pub(crate) fn stride_from(run: &Run, cores: u64, slot: &Slot) -> Option<Stride>
     requires packets { HasPackets run.now.leg.mode }
     requires within { (n : ℕ) → size run.now.leg ≡ Some n → slot.now.in_run < n }
@@ -86,7 +86,7 @@ pub(crate) fn stride_from(run: &Run, cores: u64, slot: &Slot) -> Option<Stride>
     })
 }
 
-/// The core's next packet of the same burst, where there is one and it is due below the duration.
+/// The core's next packet of the same burst. None where the burst has none that is due below the duration.
 pub(crate) fn next_by_stride(
     run: &Run,
     cores: u64,

@@ -1,3 +1,5 @@
+// Walks over chains, packet by packet, and the laws called once.
+
 ghost use Rattle.std.specs.Prelude.{IfOk};
 ghost use Rattle.trex_sched.specs.Chain.{chain_of, IsChain};
 ghost use Rattle.trex_sched.specs.Times.{HasPackets};
@@ -10,7 +12,7 @@ use std::process::Abort;
 use std::test::Fail;
 use trex_merge::Keyed;
 
-// A walk sends packets of these times, streams and numbers, and no others.
+/// A walk sends packets of these times, streams and numbers, and no others.
 fn sends(rt: &impl Abort, mut walk: Walk<'_>, packets: &[(u64, u32, u64)]) {
     for packet in packets {
         let next = walk.peek();
@@ -25,7 +27,7 @@ fn sends(rt: &impl Abort, mut walk: Walk<'_>, packets: &[(u64, u32, u64)]) {
     assert!(rt; walk.peek().is_none());
 }
 
-// A chain of one leg, which nothing follows.
+/// A chain of one leg, which nothing follows.
 fn alone(alloc: Global, leg: Leg) -> Result<ChainSpec, AllocError>
     requires { HasPackets leg.mode }
     ensures { IfOk result (λ chain. IsChain (chain_of chain)) }

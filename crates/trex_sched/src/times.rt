@@ -7,7 +7,7 @@ ghost use Rattle.trex_sched.specs.Times.{HasPackets, below, offset_of, size_of, 
 use crate::mode::Mode;
 use crate::period::Period;
 
-/// The number of packets of one run, where it ends.
+/// The number of packets of one run. None where it has no end.
 pub(crate) fn packets_in(mode: &Mode) -> Option<u64>
     ensures { result ≡ size_of mode.now }
 {
@@ -23,7 +23,7 @@ pub(crate) fn packets_in(mode: &Mode) -> Option<u64>
     }
 }
 
-/// The time of packet `k` of a run from the run's start, in nanoseconds, where it is below the limit.
+/// The time of packet `k` of a run from the run's start, in nanoseconds. None where it isn't below the limit.
 pub(crate) fn offset_below(period: &Period, mode: &Mode, k: u64, limit: u64) -> Option<u64>
     requires packets { HasPackets mode.now }
     requires small { k < 3 * 10 ^ 18 }
@@ -45,7 +45,7 @@ pub(crate) fn offset_below(period: &Period, mode: &Mode, k: u64, limit: u64) -> 
     }
 }
 
-/// How long a run lasts, in nanoseconds, where it ends below the limit.
+/// How long a run lasts, in nanoseconds. None where it has no end, or not below the limit.
 pub(crate) fn span_below(period: &Period, mode: &Mode, limit: u64) -> Option<u64>
     requires { limit ≤ 10 ^ 18 }
     ensures { result ≡ option_and_then (below limit) (span_of period.now mode.now) }
@@ -70,7 +70,8 @@ pub(crate) fn span_below(period: &Period, mode: &Mode, limit: u64) -> Option<u64
     }
 }
 
-// So many bursts and a time more, where that is below the limit. A product that could leave 128 bits is never taken.
+/// The time of `bursts` bursts of `burst` nanoseconds each and `more` nanoseconds. None where it isn't below the limit; a product that
+/// could leave 128 bits is never taken.
 fn bursts_below(bursts: u64, burst: u128, more: u128, limit: u64) -> Option<u64>
     requires few { bursts < 3 * 10 ^ 18 }
     requires short { more < 2 ^ 127 }
@@ -86,7 +87,7 @@ fn bursts_below(bursts: u64, burst: u128, more: u128, limit: u64) -> Option<u64>
     time_below(u128::from(bursts) * burst + more, limit)
 }
 
-// A time, where it is below the limit.
+/// A time. None where it isn't below the limit.
 fn time_below(time: u128, limit: u64) -> Option<u64>
     ensures { result ≡ below limit time }
 {

@@ -4,7 +4,7 @@ ghost use Rattle.std.specs.Prelude.{◌≡◌, ◌+◌, ◌^◌, ◌<◌, ◌≤
 ghost use Rattle.trex_sched.specs.declared.slot.Slot.{Slot as ASlot};
 ghost use Rattle.trex_sched.specs.Chain.{chain_of, IsChain};
 ghost use Rattle.trex_sched.specs.Entries.{entries, share};
-ghost use Rattle.trex_sched.specs.ToCome.{IsReached, IsStanding, IsWalk, rest_from, to_come};
+ghost use Rattle.trex_sched.specs.Remaining.{IsReachable, IsStanding, IsWalk, rest_from, remaining};
 
 use crate::chain::ChainSpec;
 use crate::run::Run;
@@ -13,25 +13,25 @@ use crate::steps::{begin, next_in_run, next_run};
 use crate::stride::{Stride, next_by_stride, stride_from};
 use std::marker::Model;
 
-// Where a walk stands: at a packet of a run, or at the end.
+/// Where a walk stands: at a packet of a run, or at the end.
 #[derive(Clone, Copy)]
 struct Cursor {
     run: Run,
     next: Option<Slot>,
-    // Where the core has a later packet in the next one's burst.
+    /// The way from `next` to the core's later packets of the same burst, where there are some.
     stride: Option<Stride>,
 }
 
-// The core's first packet from packet `from` of the cursor's run on, in this run or a later one.
+/// Goes to the core's first packet from packet `from` of the cursor's run on, in this run or a later one.
 fn seek(chain: &ChainSpec, core: u64, cores: u64, duration: u64, cursor: &mut Cursor, mut from: u64)
     requires chain { IsChain (chain_of chain.now) }
     requires core { core < cores }
     requires cores { cores ≤ 64 }
     requires duration { duration ≤ 10 ^ 18 }
-    requires reached { IsReached (chain_of chain.now) cursor.old.run }
+    requires reached { IsReachable (chain_of chain.now) cursor.old.run }
     requires begun { cursor.old.run.start < duration }
     requires from { from ≤ 10 ^ 18 }
-    ensures rest { to_come (chain_of chain.now) core cores duration cursor.new.run cursor.new.next
+    ensures rest { remaining (chain_of chain.now) core cores duration cursor.new.run cursor.new.next
         ≡ rest_from (chain_of chain.now) core cores duration cursor.old.run from }
     ensures stands { IsStanding (chain_of chain.now) core cores duration cursor.new.run cursor.new.stride cursor.new.next }
 {
@@ -54,14 +54,14 @@ fn seek(chain: &ChainSpec, core: u64, cores: u64, duration: u64, cursor: &mut Cu
     }
 }
 
-// From the slot at which a cursor stands to the core's next one.
+/// Goes from the slot at which a cursor stands to the core's next one.
 fn step(chain: &ChainSpec, core: u64, cores: u64, duration: u64, cursor: &mut Cursor, slot: &Slot)
     requires chain { IsChain (chain_of chain.now) }
     requires core { core < cores }
     requires cores { cores ≤ 64 }
     requires duration { duration ≤ 10 ^ 18 }
     requires stands { IsStanding (chain_of chain.now) core cores duration cursor.old.run cursor.old.stride (Some slot.now) }
-    ensures rest { to_come (chain_of chain.now) core cores duration cursor.new.run cursor.new.next
+    ensures rest { remaining (chain_of chain.now) core cores duration cursor.new.run cursor.new.next
         ≡ rest_from (chain_of chain.now) core cores duration cursor.old.run (slot.now.in_run + 1) }
     ensures stands { IsStanding (chain_of chain.now) core cores duration cursor.new.run cursor.new.stride cursor.new.next }
 {
@@ -85,7 +85,7 @@ pub struct Walk<'p> {
 impl<'p> Model for Walk<'p> {
     ghost Value = { List ASlot };
 
-    ghost view = { λ w. to_come (chain_of w.chain.now) w.core w.cores w.duration w.cursor.run w.cursor.next };
+    ghost view = { λ w. remaining (chain_of w.chain.now) w.core w.cores w.duration w.cursor.run w.cursor.next };
 
     ghost invariant = { λ w. IsWalk (chain_of w.chain.now) w.core w.cores w.duration w.cursor.run w.cursor.stride w.cursor.next };
 }
@@ -136,13 +136,13 @@ impl<'p> Walk<'p> {
     }
 }
 
-// Where a core's walk over a chain begins.
+/// Where a core's walk over a chain begins.
 fn first_of(chain: &ChainSpec, core: u64, cores: u64, duration: u64) -> Cursor
     requires chain { IsChain (chain_of chain.now) }
     requires core { core < cores }
     requires cores { cores ≤ 64 }
     requires duration { duration ≤ 10 ^ 18 }
-    ensures whole { to_come (chain_of chain.now) core cores duration result.run result.next
+    ensures whole { remaining (chain_of chain.now) core cores duration result.run result.next
         ≡ share core cores (entries (chain_of chain.now) duration) }
     ensures stands { IsStanding (chain_of chain.now) core cores duration result.run result.stride result.next }
 {

@@ -23,7 +23,7 @@ use trex_merge::{least_goes_first, order_is_unique};
 #[derive(Drop)]
 pub struct Walks<'p> {
     walks: Vec<Walk<'p>>,
-    // One for each walk that has a packet.
+    /// One for each walk that has a packet.
     heads: BinaryHeap<Reverse<Head>>,
 }
 
@@ -60,6 +60,7 @@ impl<'p> Walks<'p> {
         ensures { IfOk result
             (λ w. w ≡ share core cores (ordered key_of (all_entries (map chain_of chains.now) duration))) }
     {
+        // For the proof that the walks rise and are apart, and so have one order.
         entries_rise();
         order_is_unique::<Slot>();
         let mut walks = Vec::with_capacity(alloc, chains.len())?;
@@ -75,6 +76,7 @@ impl<'p> Walks<'p> {
     pub fn peek(&self) -> Option<Slot>
         ensures { result ≡ slice_get self.now 0 }
     {
+        // For the proof that the least head is the first of all packets.
         least_goes_first::<Slot>();
         let Reverse(head) = self.heads.peek()?;
         let walk = &self.walks[head.place];
@@ -86,13 +88,14 @@ impl<'p> Walks<'p> {
         ensures slot { result ≡ slice_get self.old 0 }
         ensures rest { self.new ≡ drop 1 self.old }
     {
+        // For the proof that the least head is the first of all packets, and that the others still rise.
         least_goes_first::<Slot>();
         let Reverse(head) = self.heads.pop()?;
-        pass(&mut self.walks, &mut self.heads, head.place)
+        take_next(&mut self.walks, &mut self.heads, head.place)
     }
 }
 
-// One more walk, with its head where it has a packet.
+/// Adds a walk, with its head if it has a packet.
 fn add<'p>(
     walks: &mut Vec<Walk<'p>>,
     heads: &mut BinaryHeap<Reverse<Head>>,
@@ -111,8 +114,8 @@ fn add<'p>(
     Ok(())
 }
 
-// The next packet of the walk at a place, which is passed. The walk's head is put back where it has a further packet.
-fn pass(walks: &mut Vec<Walk>, heads: &mut BinaryHeap<Reverse<Head>>, place: usize) -> Option<Slot>
+/// Passes the next packet of the walk at a place, and answers it. The walk's head is put back where it has a further packet.
+fn take_next(walks: &mut Vec<Walk>, heads: &mut BinaryHeap<Reverse<Head>>, place: usize) -> Option<Slot>
     requires place { place < vec_len walks.old }
     requires room { heap_len heads.old < heap_capacity heads.old }
     requires others { AreHeads (slice_set walks.old.items place []) (heap_items heads.old) }
@@ -133,7 +136,7 @@ fn pass(walks: &mut Vec<Walk>, heads: &mut BinaryHeap<Reverse<Head>>, place: usi
     slot
 }
 
-// A head goes into a heap that has room for it.
+/// Puts a head into a heap that has room for it.
 fn put_back(heads: &mut BinaryHeap<Reverse<Head>>, head: Head)
     requires room { heap_len heads.old < heap_capacity heads.old }
     requires heap { IsHeap least_first (heap_items heads.old) }

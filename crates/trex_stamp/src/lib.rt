@@ -1,4 +1,4 @@
-// The latency header: 16 bytes at the end of a packet that say which flow it belongs to, where in it, and when it was due.
+//! The latency headers, in two versions, at the end of a packet: which flow it belongs to, where in it, and when it was due.
 #![tactic(auto)]
 
 mod header;
@@ -7,6 +7,6 @@ mod spelling;
 #[cfg(test)]
 mod tests;
 
-pub use header::{SHORTEST_STAMPED, STAMP_SIZE, Stamp};
+pub use header::{Stamp, Version};
 pub use laws::stamps_are_found;
-pub use spelling::{find_stamp, stamp};
+pub use spelling::{find_stamp, write_stamp};

@@ -1,3 +1,5 @@
+// A packet of a flow, as it came.
+
 /// A stamped packet of a flow, as it came.
 #[derive(Clone, Copy, Drop)]
 pub(crate) struct Arrival {

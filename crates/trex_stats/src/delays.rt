@@ -1,3 +1,5 @@
+// What is kept of the latencies of a flow.
+
 ghost use Rattle.std.specs.Prelude.{◌≡◌, ◌+◌, ◌*◌, ◌^◌, ◌<◌, ◌≤◌, min, max, [], ◌∷◌, ◌++◌, List, if◌then◌else◌, ◌==◌};
 ghost use Rattle.trex_stats.specs.declared.arrival.Arrival.{Arrival};
 
@@ -17,7 +19,7 @@ pub(crate) struct Delays {
 impl Delays {
     ghost use Rattle.trex_stats.specs.Kept.{AreDelays};
 
-    /// Those of no packets.
+    /// What is kept of no packets.
     pub(crate) fn new() -> Delays
         ensures delays { AreDelays result [] }
         ensures empty { (result.early ≡ 0) × (result.timely ≡ 0) }
@@ -50,7 +52,7 @@ impl Delays {
     }
 }
 
-// The least latency after one more, where so many came before.
+/// The least latency after one more, where so many came before.
 fn lower(before: u64, least: u64, latency: u64) -> u64
     ensures { result ≡ (if before == 0 then latency else min least latency) }
 {

@@ -1,3 +1,5 @@
+// What is kept of a flow, packet by packet.
+
 ghost use Rattle.std.specs.Prelude.{◌≡◌, ◌+◌, ◌^◌, ◌<◌, ◌≤◌, [], ◌∷◌, ◌++◌, List, length, OnOk, OnErr};
 
 use crate::arrival::Arrival;
@@ -20,7 +22,7 @@ impl Flow {
     ghost use Rattle.trex_stats.specs.Kept.{AreFlow, line_in};
     ghost use Rattle.trex_stats.specs.declared.arrival.Arrival.{Arrival};
 
-    /// That of no packets.
+    /// What is kept of no packets.
     pub(crate) fn new(alloc: Global) -> Flow
         ensures flow { AreFlow result [] }
         ensures empty { result.received ≡ 0 }
@@ -32,7 +34,7 @@ impl Flow {
         }
     }
 
-    /// Counts one more packet. After want of memory nothing is changed.
+    /// Counts one more packet. Out of memory, nothing is changed.
     pub(crate) fn add(&mut self, arrival: Arrival) -> Result<(), Memory>
         requires { self.old.received < 2 ^ 30 }
         ensures kept { OnOk result ((ps : List Arrival) → AreFlow self.old ps → AreFlow self.new (ps ++ arrival ∷ [])) }

@@ -1,3 +1,5 @@
+// The lines of all flows, one after another.
+
 ghost use Rattle.std.specs.Prelude.{◌≡◌};
 
 use crate::flow::Flow;
@@ -30,7 +32,7 @@ impl<'a> Flows<'a> {
     ghost use Rattle.std.specs.Ordering.{nat_cmp};
     ghost use Rattle.trex_stats.specs.Counts.{lines_in};
 
-    // The lines of all flows of a map.
+    /// The lines of all flows of a map.
     pub(crate) fn over(flows: &'a BTreeMap<FlowNumber, Flow>) -> Flows<'a>
         ensures rest { result ≡ lines_in flows.now.entries }
         ensures rise { IsStrictlySortedBy nat_cmp (keys_of flows.now.entries) }

@@ -1,3 +1,5 @@
+// The laws of counts.
+
 ghost use Rattle.std.specs.Prelude.{◌≡◌, ℕ, List, length};
 ghost use Rattle.trex_stats.specs.Arrivals.{line_of};
 ghost use Rattle.trex_stats.specs.Laws.{AreAsSent, clean_line};

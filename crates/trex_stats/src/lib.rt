@@ -1,4 +1,4 @@
-// The counts of a capture's stamped packets, flow by flow: lost, repeated, reordered and early packets, and their latencies (RFC 4737).
+//! The counts of a capture's stamped packets, flow by flow: lost, repeated, reordered and early packets, and their latencies (RFC 4737).
 #![tactic(auto)]
 
 mod arrival;

@@ -1,5 +1,7 @@
-/// A flow's number, as wide as the latency header has it.
-pub type FlowNumber = u16;
+// What is counted of a flow.
+
+/// A flow's number, as wide as the wider latency header has it.
+pub type FlowNumber = u32;
 
 /// What is counted of a flow (RFC 4737, reordering by sequence numbers; the rest own). Latencies are in ns.
 #[derive(Clone, Copy, Debug, PartialEq, Eq, Drop)]

@@ -1,3 +1,5 @@
+// What is kept of the sequence numbers of a flow: which came, and how many of them again or late.
+
 ghost use Rattle.std.specs.Prelude.{◌≡◌, ◌+◌, ◌^◌, ◌<◌, ◌≤◌, [], ◌∷◌, ◌++◌, List, length, nat_lt, OnOk, OnErr};
 ghost use Rattle.std.specs.List.{list_any};
 ghost use Rattle.trex_stats.specs.Arrivals.{missing_of};
@@ -18,7 +20,7 @@ pub(crate) struct Order {
 }
 
 impl Order {
-    /// That of no packets.
+    /// What is kept of no packets.
     pub(crate) fn new(alloc: Global) -> Order
         ensures order { AreOrder result [] }
         ensures empty { (result.seen ≡ []) × (result.duplicates ≡ 0) × (result.reordered ≡ 0) }
@@ -30,7 +32,7 @@ impl Order {
         }
     }
 
-    /// Counts the number of one more packet. After want of memory nothing is changed.
+    /// Counts the number of one more packet. Out of memory, nothing is changed.
     pub(crate) fn add(&mut self, number: u64) -> Result<(), Memory>
         requires { length self.old.seen + self.old.duplicates + self.old.reordered < 2 ^ 32 }
         ensures kept { OnOk result ((ps : List Arrival) (a : Arrival) → AreOrder self.old ps → a.sequence ≡ number
@@ -59,7 +61,7 @@ impl Order {
     }
 }
 
-// Whether a greater number came before.
+/// Whether a greater number came before.
 fn is_late(seen: &SeqRanges, number: u64) -> bool
     ensures { result ≡ list_any (nat_lt number) seen.now }
 {

@@ -1,3 +1,5 @@
+// A set of numbers as the ranges in which they lie.
+
 ghost use Rattle.std.specs.Prelude.{◌≡◌, ℕ, ◌+◌, ◌-◌, ◌^◌, ◌<◌, ◌≤◌, [], true, length, not, if◌then◌else◌, IfOk, IfSome, OnOk, OnErr, MatchOption};
 ghost use Rattle.std.specs.BTreeSet.{insert_key};
 ghost use Rattle.std.specs.List.{AllByRecursion};
@@ -39,7 +41,7 @@ impl SeqRanges {
         }
     }
 
-    /// Takes in a number, and answers whether it is new. After want of memory the set is as before.
+    /// Takes in a number, and answers whether it is new. Out of memory, the set is as before.
     pub fn insert(&mut self, number: u64) -> Result<bool, Memory>
         requires { length self.old < 2 ^ 64 - 1 }
         ensures new { IfOk result (λ new. new ≡ not (has self.old number)) }
@@ -79,7 +81,7 @@ impl SeqRanges {
     }
 }
 
-// The last range that begins at the number or below it.
+/// The last range that begins at the number or below it.
 fn range_below(ranges: &BTreeMap<u64, u64>, number: u64) -> Option<(u64, u64)>
     requires { Ascend 0 ranges.now.entries }
     ensures { IsBelow ranges.now.entries number result }
@@ -90,7 +92,7 @@ fn range_below(ranges: &BTreeMap<u64, u64>, number: u64) -> Option<(u64, u64)>
     }
 }
 
-// Whether the last range that begins at the number or below it reaches the number.
+/// Whether the last range that begins at the number or below it reaches the number.
 fn covers(below: Option<(u64, u64)>, number: u64) -> bool
     ensures { result ≡ reaches below number }
 {
@@ -100,7 +102,7 @@ fn covers(below: Option<(u64, u64)>, number: u64) -> bool
     }
 }
 
-// Where the range that begins just after the number ends; the number itself, where none does.
+/// Where the range that begins just after the number ends; the number itself, where none does.
 fn last_of(ranges: &BTreeMap<u64, u64>, number: u64) -> u64
     requires { Ascend 0 ranges.now.entries }
     ensures { result ≡ joined_after ranges.now.entries number }
@@ -114,7 +116,7 @@ fn last_of(ranges: &BTreeMap<u64, u64>, number: u64) -> u64
     }
 }
 
-// Where the range that ends just before the number begins; the number itself, where none does.
+/// Where the range that ends just before the number begins; the number itself, where none does.
 fn first_of(below: Option<(u64, u64)>, number: u64) -> u64
     requires { IfSome below (λ r. r.1 < number) }
     ensures { result ≡ joined_before below number }
@@ -125,7 +127,7 @@ fn first_of(below: Option<(u64, u64)>, number: u64) -> u64
     }
 }
 
-// Puts a number into the ranges, joined with those that it touches. The one step that may fail comes first.
+/// Puts a number into the ranges, joined with those that it touches. The one step that may fail comes first.
 fn put(
     ranges: &mut BTreeMap<u64, u64>,
     below: Option<(u64, u64)>,
@@ -148,7 +150,7 @@ fn put(
     Ok(())
 }
 
-// The last number of the last range.
+/// The last number of the last range.
 fn greatest_of(ranges: &BTreeMap<u64, u64>) -> Option<u64>
     requires { Ascend 0 ranges.now.entries }
     ensures { MatchOption result (numbers ranges.now.entries ≡ [])

@@ -1,3 +1,5 @@
+// The counts of a capture: `Stats::add` for each record in order, and then what is counted.
+
 ghost use Rattle.std.specs.Prelude.{◌≡◌, ℕ, ◌+◌, ◌<◌, ◌≤◌, ◌↔◌, [], ◌∷◌, ◌++◌, List, length, IsTrue, OnOk, OnErr, slice_index_or};
 ghost use Rattle.std.specs.BTreeMap.{is_at};
 ghost use Rattle.std.specs.List.{All};
@@ -70,7 +72,7 @@ impl Stats {
     }
 
     /// Counts one more record, of this time in ns, these captured bytes and this original length. It counts for a flow where its
-    /// packet is whole and ends in a stamp. After want of memory the counts are as before.
+    /// packet is whole and ends in a stamp. Out of memory, the counts are as before.
     pub fn add(&mut self, time: u64, bytes: &[u8], original: u32) -> Result<(), Memory>
         requires few { self.old.records < 200000000 }
         requires short { length bytes.now ≤ 262144 }
@@ -81,7 +83,7 @@ impl Stats {
     {
         if let Some(stamp) = whole_stamp(bytes, original) {
             let arrival = Arrival {
-                sequence: u64::from(stamp.sequence),
+                sequence: stamp.sequence,
                 sent: stamp.time,
                 came: time,
             };
@@ -134,7 +136,7 @@ impl Stats {
     }
 }
 
-// The stamp at the end of the bytes, where they are the whole packet.
+/// The stamp at the end of the bytes, where they are the whole packet.
 fn whole_stamp(bytes: &[u8], original: u32) -> Option<Stamp>
     ensures { result ≡ whole_stamp bytes.now original }
 {
@@ -144,7 +146,7 @@ fn whole_stamp(bytes: &[u8], original: u32) -> Option<Stamp>
     find_stamp(bytes)
 }
 
-// The line of the flow at a place of the map.
+/// The line of the flow at a place of the map.
 fn line_at(flows: &BTreeMap<FlowNumber, Flow>, place: usize) -> FlowLine
     requires { place < length flows.now.entries }
     ensures kept { (d : FlowLine) → result ≡ slice_index_or (lines_in flows.now.entries) place d }
@@ -154,7 +156,7 @@ fn line_at(flows: &BTreeMap<FlowNumber, Flow>, place: usize) -> FlowLine
     kept.line(*flow)
 }
 
-// Counts a packet for its flow.
+/// Counts a packet for its flow.
 fn arrive(
     alloc: Global,
     flows: &mut BTreeMap<FlowNumber, Flow>,

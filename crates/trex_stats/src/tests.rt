@@ -6,29 +6,32 @@ use super::*;
 use std::alloc::Global;
 use std::test::Fail;
 use trex_io::Memory;
-use trex_stamp::{Stamp, stamp};
+use trex_stamp::{Stamp, Version, write_stamp};
 
-// A packet of a flow: its sequence number, when it was due and when it came, in ns.
+/// A packet of a flow: its sequence number, when it was due and when it came, in ns.
 #[derive(Clone, Copy, Drop)]
-struct Came(u16, u32, u64, u64);
+struct Came(u32, u64, u64, u64);
 
-// The counts of packets of 16 bytes that are their stamps.
+/// The counts of packets of 24 bytes that are their latency headers, of version 2.
 fn counts_of(alloc: Global, packets: &[Came]) -> Result<Stats, Memory>
     requires { length packets.now ≤ 100 }
 {
     let mut stats = Stats::new(alloc);
     for Came(flow, sequence, time, came) in packets {
-        let bytes = stamp(&Stamp {
+        let mut bytes = [0; 24];
+        let stamp = Stamp {
+            version: Version::Two,
             flow: *flow,
             sequence: *sequence,
             time: *time,
-        });
-        stats.add(*came, &bytes, 16)?;
+        };
+        write_stamp(&stamp, &mut bytes);
+        stats.add(*came, &bytes, 24)?;
     }
     Ok(stats)
 }
 
-// A line of flow 0 with no early packet.
+/// A line of flow 0 with no early packet.
 fn line(received: u64, duplicates: u64, lost: u64, reordered: u64) -> FlowLine {
     FlowLine {
         flow: 0,
@@ -43,7 +46,7 @@ fn line(received: u64, duplicates: u64, lost: u64, reordered: u64) -> FlowLine {
     }
 }
 
-// The only line of some packets of flow 0.
+/// The only line of some packets of flow 0.
 fn line_of(alloc: Global, packets: &[Came]) -> Result<Option<FlowLine>, Memory>
     requires { length packets.now ≤ 100 }
 {
@@ -72,7 +75,7 @@ fn a_late_packet_is_reordered_and_a_repeat_is_a_duplicate(rt: HostRuntime) -> Re
     assert_eq!(rt; stats.flow(0), wanted);
     let totals = Totals {
         records: 5,
-        bytes: 80,
+        bytes: 120,
         stamped: 5,
     };
     assert_eq!(rt; stats.totals(), totals);
@@ -108,11 +111,8 @@ fn numbers_are_counted_in_whatever_order_they_come(rt: HostRuntime) -> Result<()
         ..line(5, 3, 2, 1)
     };
     assert_eq!(rt; line_of(rt.alloc(), &repeats)?, Some(wanted));
-    let last = [Came(0, 4_294_967_295, 0, 0)];
-    assert_eq!(rt;
-        line_of(rt.alloc(), &last)?,
-        Some(line(1, 0, 4_294_967_295, 0))
-    );
+    let last = [Came(0, u64::MAX, 0, 0)];
+    assert_eq!(rt; line_of(rt.alloc(), &last)?, Some(line(1, 0, u64::MAX, 0)));
     Ok(())
 }
 
@@ -144,15 +144,15 @@ fn an_early_packet_has_no_latency(rt: HostRuntime) -> Result<(), Fail> {
 #[test]
 fn flows_come_in_rising_order_of_number(rt: HostRuntime) -> Result<(), Fail> {
     let packets = [
-        Came(65_535, 0, 0, 0),
+        Came(4_294_967_295, 0, 0, 0),
         Came(0, 0, 0, 0),
-        Came(65_535, 1, 0, 0),
+        Came(4_294_967_295, 1, 0, 0),
     ];
     let stats = counts_of(rt.alloc(), &packets)?;
     let mut flows = stats.flows();
     assert_eq!(rt; flows.next(), Some(line(1, 0, 0, 0)));
     let last = FlowLine {
-        flow: 65_535,
+        flow: 4_294_967_295,
         ..line(2, 0, 0, 0)
     };
     assert_eq!(rt; flows.next(), Some(last));
@@ -162,22 +162,42 @@ fn flows_come_in_rising_order_of_number(rt: HostRuntime) -> Result<(), Fail> {
     Ok(())
 }
 
+/// A latency header of version 1 and one of version 2, both of packet 2 of flow 7, due at 10 ns.
+const ONE: &[u8] = b"\xab\x01\0\x07\0\0\0\x02\0\0\0\0\0\0\0\x0a";
+
+const TWO: &[u8] = b"\xab\x02\0\0\0\0\0\x07\0\0\0\0\0\0\0\x02\0\0\0\0\0\0\0\x0a";
+
+#[test]
+fn both_headers_count_for_one_flow(rt: HostRuntime) -> Result<(), Fail> {
+    let mut stats = Stats::new(rt.alloc());
+    stats.add(15, ONE, 16)?;
+    stats.add(20, TWO, 24)?;
+    assert_eq!(rt; stats.len(), 1);
+    let wanted = FlowLine {
+        flow: 7,
+        least: 5,
+        greatest: 10,
+        sum: 15,
+        ..line(2, 1, 2, 0)
+    };
+    assert_eq!(rt; stats.flow(0), wanted);
+    Ok(())
+}
+
 #[test]
 fn only_a_whole_packet_counts_for_a_flow(rt: HostRuntime) -> Result<(), Fail> {
-    let bytes = stamp(&Stamp {
-        flow: 0,
-        sequence: 0,
-        time: 0,
-    });
     let mut stats = Stats::new(rt.alloc());
-    stats.add(0, &bytes, 15)?;
-    stats.add(0, &bytes, 17)?;
-    stats.add(0, &bytes[1..], 15)?;
+    stats.add(0, ONE, 15)?;
+    stats.add(0, ONE, 17)?;
+    stats.add(0, &ONE[1..], 15)?;
+    stats.add(0, TWO, 23)?;
+    stats.add(0, TWO, 25)?;
+    stats.add(0, &TWO[1..], 23)?;
     stats.add(0, &[], 0)?;
     assert_eq!(rt; stats.len(), 0);
     let totals = Totals {
-        records: 4,
-        bytes: 47,
+        records: 7,
+        bytes: 118,
         stamped: 0,
     };
     assert_eq!(rt; stats.totals(), totals);

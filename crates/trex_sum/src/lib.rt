@@ -1,4 +1,4 @@
-// The Internet checksum (RFC 1071): sums, their fold, and the test that a sum verifies.
+//! The Internet checksum (RFC 1071): sums, their fold, and the test that a sum verifies.
 #![tactic(auto)]
 
 mod running;

@@ -10,11 +10,11 @@ use crate::sums::sum_words;
 #[derive(Clone, Copy, Debug, PartialEq, Eq)]
 pub struct RunningSum {
     sum: u64,
-    // whether the next byte ends a word
+    /// Whether the next byte ends a word.
     odd: bool,
 }
 
-/// The sum of the bytes that follow, of which the first ends a word or begins one.
+/// The sum of a piece whose first byte ends a word where `odd` is set, and begins one elsewhere.
 fn sum_after(odd: bool, piece: &[u8]) -> u64
     requires { length piece.now < 2 ^ 40 }
     ensures value { result ≡ sum_of (if odd then 0 ∷ piece.now else piece.now) }

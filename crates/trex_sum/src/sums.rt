@@ -24,7 +24,7 @@ pub fn sum_words(bytes: &[u8]) -> u64
     total + sum_each_word(rest)
 }
 
-/// The sum of four words, read as one number.
+/// The sum of the four words in eight bytes, which are read as one number.
 fn sum_four_words(bytes: &[u8]) -> u64
     requires { length bytes.now ≡ 8 }
     ensures value { result ≡ sum_of bytes.now }
@@ -36,7 +36,7 @@ fn sum_four_words(bytes: &[u8]) -> u64
     (word >> 48) + (word >> 32) % 65536 + (word >> 16) % 65536 + word % 65536
 }
 
-/// The sum, word by word.
+/// The sum of some bytes, word by word.
 fn sum_each_word(bytes: &[u8]) -> u64
     requires { length bytes.now < 2 ^ 40 }
     ensures value { result ≡ sum_of bytes.now }

@@ -1,6 +1,8 @@
+// Sums of known bytes, at once and in pieces, and the checksum that is written as all ones.
+
 use crate::{RunningSum, fold, ones_for_zero, sum_words, verifies};
 
-// the numerical example of RFC 1071, section 3, whose sum is 2ddf0 and whose checksum is 220d
+/// The numerical example of RFC 1071, section 3, whose sum is 2ddf0 and whose checksum is 220d, and other lengths beside it.
 #[test]
 fn sums_words_and_folds_them(rt: HostRuntime) {
     let rows: [(&[u8], u64, u16); 6] = [
@@ -28,7 +30,7 @@ fn sums_words_and_folds_them(rt: HostRuntime) {
     }
 }
 
-// the same bytes in pieces, of which some begin in the middle of a word
+/// The bytes of that example in pieces, of which some begin in the middle of a word.
 #[test]
 fn sums_bytes_that_go_by_in_pieces(rt: HostRuntime) {
     let pieces: [&[u8]; 5] = [

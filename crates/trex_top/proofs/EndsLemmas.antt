@@ -16,14 +16,16 @@ use Rattle.trex_top.specs.declared.status.Status.{Status}
 use Rattle.trex_top.specs.declared.status.Status.TheVariants.{Done, Usage, Refused, ReadFault, OutFault, NotesFault, BadCapture, Memory}
 use Rattle.trex_top.specs.Endings.{EntersGates, HasItsCause, IsAmong, IsBadCapture, IsGoodCapture, IsProfile, IsRefused, LeavesOutput, Suits}
 use Rattle.trex_top.specs.Ends.{Ends}
-use Rattle.trex_top.specs.Ends.Analyze.{AnalyzeEnds}
 use Rattle.trex_top.specs.Ends.Check.{CheckEnds}
 use Rattle.trex_top.specs.Ends.Help.{HelpEnds}
+use Rattle.trex_top.specs.Ends.Measured.{MeasuredEnds}
 use Rattle.trex_top.specs.Ends.Run.{RunEnds}
 use Rattle.trex_top.specs.Ends.Sample.{SampleEnds}
+use Rattle.trex_report.specs.Texts.{analysis_text}
 use Rattle.trex_run.specs.Rounds.{AreRounds}
 use Rattle.trex_run.proofs.RoundsLemmas.{tell_no_rounds}
 use Rattle.trex_top.specs.Rows.{HasVerdict}
+use Rattle.trex_top.specs.Wire.{wire_text}
 use Rattle.trex_top.specs.Sides.{Side, GateSide, Failed, Rounds, Unentered, given}
 
 -- ---- a text has one verdict, and a capture one reading
@@ -63,11 +65,11 @@ module _ {S O N : Type 0} (input : Side S) (out : Side O) (notes : Side N) where
   check_causes NotesFault e = absurd e
   check_causes _ e = tt
 
-  analyze_causes : (s : Status) → AnalyzeEnds input out notes s → HasItsCause input out notes s
-  analyze_causes ReadFault e = e.0
-  analyze_causes OutFault e = e.1
-  analyze_causes NotesFault e = absurd e
-  analyze_causes _ e = tt
+  measured_causes : (text : List Seen → List ℕ) (s : Status) → MeasuredEnds text input out notes s → HasItsCause input out notes s
+  measured_causes text ReadFault e = e.0
+  measured_causes text OutFault e = e.1
+  measured_causes text NotesFault e = absurd e
+  measured_causes text _ e = tt
 
   help_causes : (s : Status) → HelpEnds out notes s → HasItsCause input out notes s
   help_causes OutFault e = e.0
@@ -83,13 +85,13 @@ module _ {S O N : Type 0} (input : Side S) (out : Side O) (notes : Side N) where
   check_leaves Memory e = e.0
   check_leaves _ e = absurd e
 
-  analyze_leaves : (s : Status) → AnalyzeEnds input out notes s → LeavesOutput out s
-  analyze_leaves Done e = tt
-  analyze_leaves OutFault e = tt
-  analyze_leaves BadCapture e = e.2.0
-  analyze_leaves ReadFault e = e.1.0
-  analyze_leaves Memory e = e.0
-  analyze_leaves _ e = absurd e
+  measured_leaves : (text : List Seen → List ℕ) (s : Status) → MeasuredEnds text input out notes s → LeavesOutput out s
+  measured_leaves text Done e = tt
+  measured_leaves text OutFault e = tt
+  measured_leaves text BadCapture e = e.2.0
+  measured_leaves text ReadFault e = e.1.0
+  measured_leaves text Memory e = e.0
+  measured_leaves text _ e = absurd e
 
   help_leaves : (s : Status) → HelpEnds out notes s → LeavesOutput out s
   help_leaves Done e = tt
@@ -106,14 +108,14 @@ module _ {S O N : Type 0} (input : Side S) (out : Side O) (notes : Side N) where
   check_refuses _ refused e = absurd e
 
   -- a capture with a fault is called bad
-  pub analysis_refuses : OneReading → (s : Status) → IsBadCapture (given input) → AnalyzeEnds input out notes s
+  pub measuring_refuses : (text : List Seen → List ℕ) → OneReading → (s : Status) → IsBadCapture (given input) → MeasuredEnds text input out notes s
       → IsAmong s (BadCapture ∷ ReadFault ∷ Memory ∷ [])
-  analysis_refuses one BadCapture bad e = inl refl
-  analysis_refuses one ReadFault bad e = inr (inl refl)
-  analysis_refuses one Memory bad e = inr (inr (inl refl))
-  analysis_refuses one Done bad e = absurd (bad-apart one (given input) _ bad e.0)
-  analysis_refuses one OutFault bad e = absurd (bad-apart one (given input) _ bad e.0)
-  analysis_refuses one _ bad e = absurd e
+  measuring_refuses text one BadCapture bad e = inl refl
+  measuring_refuses text one ReadFault bad e = inr (inl refl)
+  measuring_refuses text one Memory bad e = inr (inr (inl refl))
+  measuring_refuses text one Done bad e = absurd (bad-apart one (given input) _ bad e.0)
+  measuring_refuses text one OutFault bad e = absurd (bad-apart one (given input) _ bad e.0)
+  measuring_refuses text one _ bad e = absurd e
 
   -- where nothing fails, what is asked is done
   module _ (one : OneReading) (read : ¬ Failed input) (wrote : ¬ Failed out) where
@@ -125,13 +127,14 @@ module _ {S O N : Type 0} (input : Side S) (out : Side O) (notes : Side N) where
     check_completes OutFault profile e = absurd (wrote e.2.0)
     check_completes _ profile e = absurd e
 
-    analyze_completes : (s : Status) → IsGoodCapture (given input) → AnalyzeEnds input out notes s → IsAmong s (Done ∷ Memory ∷ [])
-    analyze_completes Done good e = inl refl
-    analyze_completes Memory good e = inr (inl refl)
-    analyze_completes BadCapture good e = absurd (good-apart one (given input) e.0 good e.1)
-    analyze_completes ReadFault good e = absurd (read e.0)
-    analyze_completes OutFault good e = absurd (wrote e.1)
-    analyze_completes _ good e = absurd e
+    measured_completes : (text : List Seen → List ℕ) (s : Status) → IsGoodCapture (given input) → MeasuredEnds text input out notes s
+        → IsAmong s (Done ∷ Memory ∷ [])
+    measured_completes text Done good e = inl refl
+    measured_completes text Memory good e = inr (inl refl)
+    measured_completes text BadCapture good e = absurd (good-apart one (given input) e.0 good e.1)
+    measured_completes text ReadFault good e = absurd (read e.0)
+    measured_completes text OutFault good e = absurd (wrote e.1)
+    measured_completes text _ good e = absurd e
 
     help_completes : (s : Status) → HelpEnds out notes s → IsAmong s (Done ∷ Memory ∷ [])
     help_completes Done e = inl refl
@@ -147,6 +150,7 @@ module _ {S O N G : Type 0} (input : Side S) (out : Side O) (notes : Side N) (ga
   never_usage ask.Check e = e.0
   never_usage ask.Analyze e = e.0
   never_usage (ask.Sample a) e = e.0
+  never_usage (ask.Wire a) e = e.0
   never_usage ask.Help e = e.0
 
   -- words without a meaning end with it
@@ -171,8 +175,9 @@ module _ {S O N G : Type 0} (input : Side S) (out : Side O) (notes : Side N) (ga
   causes (Err u) s e = subst (HasItsCause input out notes) (sym e.0) tt
   causes (Ok (ask.Run a)) s e = run_causes a s e
   causes (Ok ask.Check) s e = check_causes input out notes s e.0
-  causes (Ok ask.Analyze) s e = analyze_causes input out notes s e.0
+  causes (Ok ask.Analyze) s e = measured_causes input out notes analysis_text s e.0
   causes (Ok (ask.Sample a)) s e = sample_causes a s e.0
+  causes (Ok (ask.Wire a)) s e = measured_causes input out notes (wire_text a) s e.0
   causes (Ok ask.Help) s e = help_causes input out notes s e.0
 
   run_leaves : (a : RunAsk) (s : Status) → RunEnds a input out notes gates s → LeavesOutput out s
@@ -195,8 +200,9 @@ module _ {S O N G : Type 0} (input : Side S) (out : Side O) (notes : Side N) (ga
   leaves (Err u) s e = subst (LeavesOutput out) (sym e.0) e.1.0
   leaves (Ok (ask.Run a)) s e = run_leaves a s e
   leaves (Ok ask.Check) s e = check_leaves input out notes s e.0
-  leaves (Ok ask.Analyze) s e = analyze_leaves input out notes s e.0
+  leaves (Ok ask.Analyze) s e = measured_leaves input out notes analysis_text s e.0
   leaves (Ok (ask.Sample a)) s e = sample_leaves a s e.0
+  leaves (Ok (ask.Wire a)) s e = measured_leaves input out notes (wire_text a) s e.0
   leaves (Ok ask.Help) s e = help_leaves input out notes s e.0
 
   -- where no gate was entered, those that tell were entered for no round
@@ -226,6 +232,7 @@ module _ {S O N G : Type 0} (input : Side S) (out : Side O) (notes : Side N) (ga
   rounds (Ok ask.Check) s e = e.1
   rounds (Ok ask.Analyze) s e = e.1
   rounds (Ok (ask.Sample a)) s e = sample_rounds a s e.0
+  rounds (Ok (ask.Wire a)) s e = e.1
   rounds (Ok ask.Help) s e = e.2
 
   -- a profile that breaks a rule is refused
@@ -258,6 +265,7 @@ module _ {S O N G : Type 0} (input : Side S) (out : Side O) (notes : Side N) (ga
     pub completes : (a : Asked) (s : Status) → Suits a (given input) → Ends (Ok a) input out notes gates s → IsAmong s (Done ∷ Memory ∷ [])
     completes (ask.Run a) s suits e = run_completes a s suits e
     completes ask.Check s suits e = check_completes input out notes one read wrote s suits e.0
-    completes ask.Analyze s suits e = analyze_completes input out notes one read wrote s suits e.0
+    completes ask.Analyze s suits e = measured_completes input out notes one read wrote analysis_text s suits e.0
     completes (ask.Sample a) s suits e = sample_completes a s e.0
+    completes (ask.Wire a) s suits e = measured_completes input out notes one read wrote (wire_text a) s suits e.0
     completes ask.Help s suits e = help_completes input out notes one read wrote s e.0

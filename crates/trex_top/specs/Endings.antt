@@ -8,7 +8,7 @@ use Rattle.trex_pcap.specs.Reading.{IsCapture}
 use Rattle.trex_profile.specs.declared.refusal.Refusal.{Refusal}
 use Rattle.trex_profile.specs.Stream.{Stream}
 use Rattle.trex_words.specs.declared.asked.Asked.{Asked}
-use Rattle.trex_words.specs.declared.asked.Asked.TheVariants.{Run, Check, Analyze, Sample, Help}
+use Rattle.trex_words.specs.declared.asked.Asked.TheVariants.{Run, Check, Analyze, Sample, Wire, Help}
 use Rattle.trex_words.specs.declared.asked.Usage.{Usage as WordsFault}
 use Rattle.trex_top.specs.declared.status.Status.{Status}
 use Rattle.trex_top.specs.declared.status.Status.TheVariants.{Done, ReadFault, OutFault, NotesFault}
@@ -45,6 +45,7 @@ Suits (Run ask) text = IsProfile text
 Suits Check text = IsProfile text
 Suits Analyze text = IsGoodCapture text
 Suits (Sample ask) text = Unit {0}
+Suits (Wire ask) text = IsGoodCapture text
 Suits Help text = Unit {0}
 
 module _ {S O N : Type 0} where

@@ -1,5 +1,6 @@
 pub mod Analysis
 pub mod Sample
+pub mod Wire
 pub mod Sides
 pub mod Rows
 pub mod Stops

@@ -1,3 +1,5 @@
+// The analysis of a capture, and what is written of it.
+
 ghost use Rattle.std.specs.Prelude.{IfErr, OnOk};
 ghost use Rattle.std.specs.Io.KnownBytes.{IsAtEnd};
 ghost use Rattle.trex_io.specs.Texts.{Wrote};
@@ -24,7 +26,7 @@ pub enum AnalyzeFault {
     /// The output could not be written.
     #[error("the output failed")]
     Out,
-    /// Want of memory.
+    /// Out of memory.
     #[error("out of memory")]
     Memory,
 }

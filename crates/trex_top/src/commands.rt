@@ -5,3 +5,4 @@ pub(crate) mod check;
 pub(crate) mod help;
 pub(crate) mod run;
 pub(crate) mod sample;
+pub(crate) mod wire;

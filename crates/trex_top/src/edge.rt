@@ -29,7 +29,7 @@ fn ended(status: Status) -> ExitCode
     ExitCode::from(status as u8)
 }
 
-/// The end for want of memory before the command is known.
+/// The end where memory runs out before the command is known.
 fn out_of_memory<N: Sink>(notes: &mut N) -> ExitCode
     ensures { exit_status result ≡ exit_number Status.Memory }
 {

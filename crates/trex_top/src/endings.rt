@@ -1,14 +1,15 @@
 // The laws of how the program ends.
 
-ghost use Rattle.std.specs.Prelude.{◌≡◌, ◌↔◌, [], ◌∷◌, Ok, IsErr, Result};
+ghost use Rattle.std.specs.Prelude.{◌≡◌, ◌↔◌, ℕ, List, [], ◌∷◌, Ok, IsErr, Result};
+ghost use Rattle.trex_io.specs.Seen.{Seen};
 ghost use Rattle.trex_words.specs.declared.asked.Asked.{Asked as AnAsked};
 ghost use Rattle.trex_words.specs.declared.asked.RunAsk.{RunAsk as ARunAsk};
 ghost use Rattle.trex_words.specs.declared.asked.Usage.{Usage as AUsage};
 ghost use Rattle.trex_top.specs.declared.status.Status.{Status as AStatus};
 ghost use Rattle.trex_top.specs.Endings.{EntersGates, HasItsCause, IsAmong, IsBadCapture, IsRefused, LeavesOutput, Suits};
 ghost use Rattle.trex_top.specs.Ends.{Ends};
-ghost use Rattle.trex_top.specs.Ends.Analyze.{AnalyzeEnds};
 ghost use Rattle.trex_top.specs.Ends.Check.{CheckEnds};
+ghost use Rattle.trex_top.specs.Ends.Measured.{MeasuredEnds};
 ghost use Rattle.trex_top.specs.Ends.Run.{RunEnds};
 ghost use Rattle.trex_top.specs.Sides.{GateSide, Side, Failed, given};
 
@@ -36,9 +37,9 @@ pub fn endings_hold<S, O, N, G>()
     ensures check_refuses { (input : Side S) (out : Side O) (notes : Side N) (s : AStatus)
         → IsRefused (given input) → CheckEnds input out notes s
         → IsAmong s (Status.Refused ∷ Status.ReadFault ∷ Status.Memory ∷ []) }
-    // A capture with a fault is called bad, unless the input fails or there is no memory.
-    ensures analysis_refuses { (input : Side S) (out : Side O) (notes : Side N) (s : AStatus)
-        → IsBadCapture (given input) → AnalyzeEnds input out notes s
+    // A capture with a fault is called bad, whatever is to be written of its records, unless the input fails or there is no memory.
+    ensures measuring_refuses { (text : List Seen → List ℕ) (input : Side S) (out : Side O) (notes : Side N) (s : AStatus)
+        → IsBadCapture (given input) → MeasuredEnds text input out notes s
         → IsAmong s (Status.BadCapture ∷ Status.ReadFault ∷ Status.Memory ∷ []) }
     // Where the input is what is asked for and nothing fails, what is asked is done, unless there is no memory.
     ensures complete { (a : AnAsked) (input : Side S) (out : Side O) (notes : Side N) (gates : GateSide G) (s : AStatus)

@@ -1,3 +1,5 @@
+// The input, as a profile.
+
 ghost use Rattle.std.specs.Prelude.{IfOk, IfErr, Ok, OnOk};
 ghost use Rattle.std.specs.Io.KnownBytes.{IsAtEnd};
 ghost use Rattle.trex_top.specs.Rows.{HasVerdict};

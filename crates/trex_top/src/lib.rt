@@ -1,4 +1,4 @@
-// The program's top call: from the command words and the input's bytes to the capture and the report.
+//! The program's top call: from the command words and the input's bytes to the capture and the report.
 #![tactic(auto)]
 
 mod analysis;

@@ -15,7 +15,7 @@ pub enum Status {
     OutFault = 5,
     /// The report could not be written; the capture stands.
     NotesFault = 6,
-    /// The capture that was to be analyzed has a fault.
+    /// The capture that was to be measured has a fault.
     BadCapture = 7,
     /// There was no memory.
     Memory = 8,

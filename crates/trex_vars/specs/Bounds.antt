@@ -5,11 +5,12 @@ use Rattle.trex_vars.specs.declared.value.VarValue.{VarValue}
 use Rattle.trex_vars.specs.declared.value.VarValue.TheVariants.{One, Pair}
 use Rattle.trex_vars.specs.Variable.{Variable, Counter, RandLimit, ListOf, Tuple}
 
--- the least and the greatest of some numbers, 0 of none
+-- the least of some numbers, 0 of none
 abbrev pub least_of : List ℕ → ℕ
 least_of [] = 0
 least_of (first ∷ rest) = fold min first rest
 
+-- the greatest of some numbers, 0 of none
 abbrev pub greatest_of : List ℕ → ℕ
 greatest_of [] = 0
 greatest_of (first ∷ rest) = fold max first rest

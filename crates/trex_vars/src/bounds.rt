@@ -45,6 +45,7 @@ impl VarSpec {
     }
 }
 
+/// The least of some values, 0 where there is none.
 fn least_of(values: &[u64]) -> u64
     ensures { result ≡ least_of values.now }
 {
@@ -54,6 +55,7 @@ fn least_of(values: &[u64]) -> u64
     }
 }
 
+/// The greatest of some values, 0 where there is none.
 fn greatest_of(values: &[u64]) -> u64
     ensures { result ≡ greatest_of values.now }
 {

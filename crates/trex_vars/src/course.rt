@@ -16,7 +16,7 @@ pub(crate) struct Course {
     pub(crate) last: u64,
 }
 
-// The course of what is random: its values come from its words alone.
+/// The course of a random variable, which stays at one place: its values come from its words alone.
 const STILL: Course = Course {
     first: 0,
     step: 0,
@@ -67,7 +67,7 @@ impl Course {
     }
 }
 
-// the course of a counter
+/// The course of a counter over the places 0 to `last`.
 fn counter_course(op: Op, last: u64, first: u64, step: u64) -> Course
     ensures { result ≡ counter_course op (last + 1) first step }
 {
@@ -82,7 +82,7 @@ fn counter_course(op: Op, last: u64, first: u64, step: u64) -> Course
     }
 }
 
-// the step up that leads where a step down does
+/// The step up that leads where a step down does, around the places 0 to `last`.
 fn back(last: u64, step: u64) -> u64
     ensures { result ≡ back (last + 1) 0 step }
 {
@@ -90,7 +90,7 @@ fn back(last: u64, step: u64) -> u64
     ((places - u128::from(step) % places) % places) as u64
 }
 
-// how many pairs come before the first comes again
+/// How many pairs of a tuple come before the first comes again: all, or the limit where it is smaller and not 0.
 fn flows(pairs: u64, limit: u64) -> u64
     ensures { result ≡ flows pairs limit }
 {

@@ -7,6 +7,7 @@ ghost use Rattle.trex_vars.specs.Variable.{variable_of};
 
 use crate::spec::{Op, VarSpec};
 
+/// The most values that a list may have.
 const MOST_VALUES: usize = 4096;
 
 /// What is wrong with a variable, in the order in which it is looked for.
@@ -47,13 +48,14 @@ pub fn check(spec: &VarSpec) -> Result<(), VarFault>
     }
 }
 
+/// Whether a variable may have this size.
 fn is_size(size: u8) -> bool
     ensures { result ≡ is_size size }
 {
     matches!(size, 1 | 2 | 4 | 8)
 }
 
-// the greatest number of so many bytes
+/// The greatest number of `size` bytes.
 fn widest(size: u8) -> u64
     requires { IsTrue (is_size size) }
     ensures { result ≡ widest size }
@@ -66,12 +68,14 @@ fn widest(size: u8) -> u64
     }
 }
 
+/// Whether one of the values is above `most`.
 fn is_any_above(most: u64, values: &[u64]) -> bool
     ensures { result ≡ list_any (nat_lt most) values.now }
 {
     values.iter().any(|value| most < *value)
 }
 
+/// Whether the size is other than 1, 2, 4 or 8 bytes. A tuple has no size of its own.
 fn has_size_fault(spec: &VarSpec) -> bool
     ensures { result ≡ has_size_fault (variable_of spec.now) }
 {
@@ -83,6 +87,7 @@ fn has_size_fault(spec: &VarSpec) -> bool
     }
 }
 
+/// Whether the greatest value, or a value of the list, needs more bytes than the size.
 fn has_wide_fault(spec: &VarSpec) -> bool
     requires { IsFalse (has_size_fault (variable_of spec.now)) }
     ensures { result ≡ has_wide_fault (variable_of spec.now) }
@@ -95,6 +100,7 @@ fn has_wide_fault(spec: &VarSpec) -> bool
     }
 }
 
+/// Whether a lower end is above its upper end.
 fn has_order_fault(spec: &VarSpec) -> bool
     ensures { result ≡ has_order_fault (variable_of spec.now) }
 {
@@ -111,6 +117,7 @@ fn has_order_fault(spec: &VarSpec) -> bool
     }
 }
 
+/// Whether a counter that goes up or down begins outside its range.
 fn has_init_fault(spec: &VarSpec) -> bool
     ensures { result ≡ has_init_fault (variable_of spec.now) }
 {
@@ -126,6 +133,7 @@ fn has_init_fault(spec: &VarSpec) -> bool
     }
 }
 
+/// Whether a list has no value, or too many.
 fn has_list_fault(spec: &VarSpec) -> bool
     ensures { result ≡ has_list_fault (variable_of spec.now) }
 {
@@ -135,6 +143,7 @@ fn has_list_fault(spec: &VarSpec) -> bool
     }
 }
 
+/// Whether random numbers have a limit of 0.
 fn has_limit_fault(spec: &VarSpec) -> bool
     ensures { result ≡ has_limit_fault (variable_of spec.now) }
 {

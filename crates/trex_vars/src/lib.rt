@@ -1,4 +1,4 @@
-// Variables: what each packet of a stream carries, by its number.
+//! Variables: what each packet of a stream carries, by its number.
 #![tactic(auto)]
 
 mod bounds;

@@ -32,6 +32,7 @@ pub(crate) fn value_from(spec: &VarSpec, place: u64, word: u64) -> VarValue
             let addresses = u64::from(*ip_max - *ip_min) + 1;
             let port = place / addresses;
             let last_port = u64::from(*port_max - *port_min);
+            // For the proof that the sum below fits 16 bits.
             prove!(port <= last_port);
             VarValue::Pair {
                 ip: *ip_min + (place % addresses) as u32,
@@ -41,7 +42,7 @@ pub(crate) fn value_from(spec: &VarSpec, place: u64, word: u64) -> VarValue
     }
 }
 
-// the place of a counter's value, at most the last
+/// The place of a counter's or a list's value among all, from 0 to `last`.
 fn counter_place(op: Op, last: u64, place: u64, word: u64) -> u64
     requires { place ≤ last }
     ensures value { result ≡ counter_place op (last + 1) place word }
@@ -53,7 +54,7 @@ fn counter_place(op: Op, last: u64, place: u64, word: u64) -> u64
     }
 }
 
-// a word modulo the number of places
+/// A word modulo the number of places 0 to `last`, which may be 2^64.
 fn within(last: u64, word: u64) -> u64
     ensures value { result ≡ word % (last + 1) }
     ensures within { result ≤ last }

@@ -1,3 +1,5 @@
+// What a variable is, as a profile gives it.
+
 /// How a counter or a list goes from one packet to the next.
 #[derive(Clone, Copy, PartialEq, Eq, Debug, Drop)]
 pub enum Op {

@@ -48,6 +48,7 @@ impl<'p> Strided<'p> {
         Strided::at(spec, cores, u64::from(core))
     }
 
+    /// The values at packet `number`, for one of `cores` cores.
     fn at(spec: &'p VarSpec, cores: u32, number: u64) -> Strided<'p>
         requires sound { fault_of (variable_of spec.now) ≡ None }
         requires number { number < 2 ^ 63 }

@@ -1,3 +1,6 @@
+// The values of each kind of variable on 1 to 5 cores, worked out by hand; random ones are the generator's words as a second program gives
+// them.
+
 ghost use Rattle.std.specs.Prelude.{◌≡◌, ◌^◌, ◌<◌, ◌≤◌, None, length};
 ghost use Rattle.trex_vars.specs.Check.{fault_of};
 ghost use Rattle.trex_vars.specs.Variable.{variable_of};
@@ -19,7 +22,7 @@ macro_rules! pairs {
     };
 }
 
-// One core of some shows its part of the values, step by step, and then any of them that is sought.
+/// Core `core` of `cores` shows its part of the values, step by step, and then each value that is sought.
 fn core_shows(rt: &impl Abort, spec: &VarSpec, core: u32, cores: u32, values: &[VarValue])
     requires sound { fault_of (variable_of spec.now) ≡ None }
     requires core { core < cores }
@@ -47,7 +50,7 @@ fn core_shows(rt: &impl Abort, spec: &VarSpec, core: u32, cores: u32, values: &[
     }
 }
 
-// The first values of a variable, on 1, 2, 3 and 5 cores.
+/// A variable shows these values first, on 1, 2, 3 and 5 cores.
 fn shows(rt: &impl Abort, spec: &VarSpec, values: &[VarValue])
     requires { length values.now < 2 ^ 32 }
 {
@@ -63,6 +66,7 @@ fn shows(rt: &impl Abort, spec: &VarSpec, values: &[VarValue])
     }
 }
 
+/// A counter with a fixed seed and position.
 fn counter(op: Op, size: u8, init: u64, min: u64, max: u64, step: u64) -> VarSpec {
     VarSpec::Counter {
         op,
@@ -76,6 +80,7 @@ fn counter(op: Op, size: u8, init: u64, min: u64, max: u64, step: u64) -> VarSpe
     }
 }
 
+/// A list with a fixed seed and position.
 fn list(alloc: Global, op: Op, size: u8, step: u64, values: &[u64]) -> Result<VarSpec, AllocError> {
     Ok(VarSpec::List {
         op,
@@ -87,6 +92,7 @@ fn list(alloc: Global, op: Op, size: u8, step: u64, values: &[u64]) -> Result<Va
     })
 }
 
+/// Three addresses and two ports.
 fn tuple(limit: u32) -> VarSpec {
     VarSpec::Tuple {
         ip_min: 1,
@@ -296,7 +302,7 @@ fn far_words_are_found(rt: HostRuntime) {
 }
 
 #[test]
-fn the_first_fault_is_told(rt: HostRuntime) -> Result<(), Fail> {
+fn the_first_fault_is_answered(rt: HostRuntime) -> Result<(), Fail> {
     let alloc = rt.alloc();
     let long = Vec::from_elem(alloc, 1u64, 4097)?;
     for (spec, verdict) in [

@@ -1,3 +1,5 @@
+// What a variable shows at one packet.
+
 /// The value of a variable at one packet.
 #[derive(Clone, Copy, PartialEq, Eq, Debug, Drop)]
 pub enum VarValue {

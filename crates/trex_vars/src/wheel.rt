@@ -32,6 +32,7 @@ impl Wheel {
         }
     }
 
+    /// The place at which the wheel stands.
     pub(crate) fn place(&self) -> u64
         ensures { result ≡ self.now.place }
     {

@@ -29,7 +29,7 @@ impl Model for Words {
         × (w.word ≡ word_at w.draw.seed w.draw.position w.draw.number) };
 }
 
-// The word after so many that are skipped.
+/// Skips some words of a generator and draws the next one.
 fn draw_after(generator: &mut Lcg128Xsl64, skipped: u64) -> u64
     ensures word { (seed position n : ℕ) → generator.old ≡ stands_at seed position n → result ≡ word_at seed position (n + skipped) }
     ensures stands { (seed position n : ℕ) → generator.old ≡ stands_at seed position n

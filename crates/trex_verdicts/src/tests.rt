@@ -7,8 +7,9 @@ use std::process::Abort;
 use std::test::Fail;
 use trex_io::MemSink;
 use trex_json::read_profile;
-use trex_profile::{Name, Profile};
+use trex_profile::{Flow, Name, Profile};
 use trex_sched::{ChainSpec, Leg, Mode, Period};
+use trex_stamp::Version;
 use trex_vars::VarSpec;
 
 /// A packet of an Ethernet header.
@@ -16,6 +17,9 @@ const PACKET: &[u8] = br#"{"binary":"AgAAAAACAgAAAAABiLU="}"#;
 
 /// A packet of 30 bytes.
 const PACKET_30: &[u8] = br#"{"binary":"AgAAAAACAgAAAAABiLUAAAAAAAAAAAAAAAAAAAAA"}"#;
+
+/// A packet of 38 bytes.
+const PACKET_38: &[u8] = br#"{"binary":"AgAAAAACAgAAAAABiLUAAAAAAAAAAAAAAAAAAAAAAAAAAAAAAAA="}"#;
 
 /// 60 bytes: an Ethernet header, an IPv4 header of 20 bytes at 14, and a UDP header at 34.
 const PACKET_60: &[u8] =
@@ -364,21 +368,36 @@ const COUNTER: &[u8] =
 
 const WRITE: &[u8] = br#"{"type":"write_flow_var","name":"v","pkt_offset":13}"#;
 
+const RESTARTING: &[u8] =
+    br#"{"type":"flow_var_rand_limit","name":"w","size":1,"limit":3,"restart":true}"#;
+
 /// Further names, a packet, its length, and the flow.
-const STREAMS: [(&[u8], &[u8], usize, Option<u16>); 2] = [
+const STREAMS: [(&[u8], &[u8], usize, Option<Flow>); 3] = [
     (br#""random_seed":5,"#, PACKET, 14, None),
     (
         br#""random_seed":5,"flow_stats":{"enabled":true,"rule_type":"latency","stream_id":3},"#,
         PACKET_30,
         30,
-        Some(3),
+        Some(Flow {
+            version: Version::One,
+            number: 3,
+        }),
+    ),
+    (
+        br#""random_seed":5,"flow_stats":{"enabled":true,"rule_type":"latency","stream_id":70000,"version":2},"#,
+        PACKET_38,
+        38,
+        Some(Flow {
+            version: Version::Two,
+            number: 70_000,
+        }),
     ),
 ];
 
 #[test]
 fn a_stream_has_its_variables_and_its_flow(rt: HostRuntime) -> Result<(), Fail> {
     let alloc = rt.alloc();
-    let vm = program(alloc, &[COUNTER, WRITE])?;
+    let vm = program(alloc, &[COUNTER, WRITE, RESTARTING])?;
     for &(names, packet, length, flow) in &STREAMS {
         let names = between(alloc, names, &vm, b"")?;
         let profile = profile_of(alloc, &one(alloc, &names, packet, MODE)?)?;
@@ -386,7 +405,8 @@ fn a_stream_has_its_variables_and_its_flow(rt: HostRuntime) -> Result<(), Fail> 
         let stream = profile.stream(0);
         assert_eq!(rt; stream.flow, flow);
         assert_eq!(rt; stream.template.len(), length);
-        assert_eq!(rt; stream.vars.len(), 1);
+        assert_eq!(rt; stream.vars.len(), 2);
+        assert_eq!(rt; stream.restart.as_slice(), [false, true].as_slice());
         let VarSpec::Counter { seed, position, .. } = &stream.vars[0] else {
             return Err(Fail::from("no counter"));
         };

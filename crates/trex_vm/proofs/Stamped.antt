@@ -1,5 +1,5 @@
 -- A packet with a latency header ends in it: no instruction writes behind the room.
-use Rattle.std.proofs.Common.{◌≡◌, ℕ, ◌+◌, ◌-◌, ◌<◌, ◌≤◌, List, ◌++◌, length, get_or, take, drop, refl, sym, ap, ◌∙◌, arith, Some, false, All}
+use Rattle.std.proofs.Common.{◌≡◌, ℕ, ◌+◌, ◌-◌, ◌<◌, ◌≤◌, List, ◌++◌, length, get_or, take, drop, sym, ap, ◌∙◌, arith, Some, false, All}
 use Rattle.std.proofs.Math.Seq.{drop-length}
 use Rattle.std.proofs.lemmas.Bool.Decides.{nat_tests}
 use Rattle.std.proofs.lemmas.List.{append-nil, drop_at, length-take-le, take-append-drop}
@@ -9,7 +9,8 @@ use Rattle.std.specs.List.{slice_range}
 use Rattle.trex_fields.specs.Bytes.{put}
 use Rattle.trex_fields.proofs.BytesLemmas.{slice_range-same}
 use Rattle.trex_stamp.specs.declared.header.Stamp.{Stamp}
-use Rattle.trex_stamp.specs.Stamp.{stamp_bytes}
+use Rattle.trex_stamp.specs.Stamp.{size_of, stamp_bytes}
+use Rattle.trex_stamp.proofs.StampLemmas.{length-stamp_bytes}
 use Rattle.trex_vars.specs.declared.value.VarValue.{VarValue}
 use Rattle.trex_vm.specs.declared.instr.Instr.{Instr}
 use Rattle.trex_vm.specs.Effect.{end_of, span_of, writes_byte}
@@ -30,15 +31,19 @@ rest-same m b c long within agree =
     ∙ ap (λ (rest : List ℕ). slice_range c m (length b) ++ rest) (ap (λ (n : ℕ). drop n c) long ∙ drop-length c)
     ∙ append-nil (slice_range c m (length b)))
 
--- the last 16 bytes of a stamped packet are its header, before the instructions
-stamped-rest : (s : Stamp) (b : List ℕ) → 16 ≤ length b → drop (length b - 16) (stamped (Some s) b) ≡ stamp_bytes s
+-- bytes that are put at the end are the last
+pub put-end : (at : ℕ) (new b : List ℕ) → at + length new ≡ length b → put at new b ≡ take at b ++ new
 unfolding put
+put-end at new b all =
+    ap (λ (rest : List ℕ). take at b ++ (new ++ rest)) (ap (λ (n : ℕ). drop n b) all ∙ drop-length b)
+    ∙ ap (λ (end : List ℕ). take at b ++ end) (append-nil new)
+
+-- a stamped packet ends in its header, before the instructions
+stamped-rest : (s : Stamp) (b : List ℕ) → size_of s.version ≤ length b → drop (length b - size_of s.version) (stamped (Some s) b) ≡ stamp_bytes s
 stamped-rest s b long =
-    let at = length b - 16 in
-    let all : at + 16 ≡ length b = omega arith in
-    drop_at (take at b) (stamp_bytes s ++ drop (at + 16) b) at (length-take-le at b (omega arith))
-    ∙ ap (λ (rest : List ℕ). stamp_bytes s ++ rest) (ap (λ (n : ℕ). drop n b) all ∙ drop-length b)
-    ∙ append-nil (stamp_bytes s)
+    let at = length b - size_of s.version in
+    ap (drop at) (put-end at (stamp_bytes s) b (omega (arith, length-stamp_bytes s)))
+    ∙ drop_at (take at b) (stamp_bytes s) at (length-take-le at b (omega arith))
 
 -- a byte behind the room is written by no instruction
 unwritten : (i : Instr) (limit k : ℕ) → end_of (span_of i) ≤ limit → limit ≤ k → writes_byte i k ≡ false
@@ -49,12 +54,12 @@ pub packet-stamped : (p : ProgramView) (values : List VarValue) (s : Stamp) (tem
     → (front : List ℕ) × (packet p.instrs values (Some s) template ≡ front ++ stamp_bytes s)
 packet-stamped p values s template runs =
     let n = cut p values template in
-    let m = n - 16 in
+    let m = n - size_of s.version in
     let b = stamped_template p.instrs values (Some s) template in
     let whole = packet p.instrs values (Some s) template in
     let start = take n template in
     let start_long : length start ≡ n = length-take-le n template (Runs-cut p values (Some s) template runs).1 in
-    let wide = Runs-long p values (Some s) template runs refl in
+    let wide = Runs-long p values (Some s) template runs in
     let front_long = length-stamped_template p values (Some s) template runs in
     let whole_long = length-packet p values (Some s) template runs in
     let behind : room p ≤ m = Runs-room p values (Some s) template runs in
@@ -66,5 +71,5 @@ packet-stamped p values s template runs =
     let rest : drop m whole ≡ drop m b = rest-same m whole b (omega arith) (omega arith) (λ k from below.
     get_or-after_all values p.instrs b (room p) k each (omega arith)
     (recursion_from_All (λ i. writes_byte i k ≡ false) p.instrs (λ j d less. unwritten (get_or p.instrs j d) (room p) k (within j d less) (omega arith)))) in
-    let header : drop m b ≡ stamp_bytes s = ap (λ (at : ℕ). drop (at - 16) b) (sym start_long) ∙ stamped-rest s start (omega arith) in
+    let header : drop m b ≡ stamp_bytes s = ap (λ (at : ℕ). drop (at - size_of s.version) b) (sym start_long) ∙ stamped-rest s start (omega arith) in
     (take m whole, sym (take-append-drop m whole) ∙ ap (λ (xs : List ℕ). take m whole ++ xs) (rest ∙ header))

@@ -12,6 +12,9 @@ use Rattle.trex_sum.specs.Checksum.{sum_of, fold_of}
 use Rattle.trex_fields.specs.Bytes.{put}
 use Rattle.trex_fields.proofs.BytesLemmas.{length-put, get_or-put_before, get_or-put_after, put-put, slice_range-same}
 use Rattle.trex_vars.specs.declared.value.VarValue.{VarValue}
+use Rattle.trex_headers.specs.declared.layer.Version.{Version as IpVersion}
+use Rattle.trex_headers.specs.declared.layer.Version.TheVariants.{V4}
+use Rattle.trex_headers.specs.Network.{network_of}
 use Rattle.trex_vm.specs.declared.instr.L4Kind.{L4Kind}
 use Rattle.trex_vm.specs.declared.instr.L4Kind.TheVariants.{Tcp, Udp}
 use Rattle.trex_vm.specs.declared.effect.Fix.{Fix}
@@ -20,13 +23,13 @@ use Rattle.trex_vm.specs.declared.effect.Span.{Span}
 use Rattle.trex_vm.specs.declared.instr.Instr.{Instr}
 use Rattle.trex_vm.specs.declared.instr.Instr.TheVariants.{Write, WriteMask}
 use Rattle.trex_vm.specs.Effect.{end_of, write_of, fix_of, changed, span_of, writes_byte}
-use Rattle.trex_vm.specs.Fix.{with_checksum, header_length, header_at, written_sum, least_segment, protocol_of, sum_place, segment_length, segment_fits, segment_at, pseudo_header, field_of, fixed, header_of}
+use Rattle.trex_vm.specs.Fix.{with_checksum, network_length, header_length, header_at, written_sum, least_segment, protocol_of, sum_place, left_for_segment, segment_length, segment_fits, segment_at, pseudo_header, field_of, fixed, header_of, ip_version, protocol_place}
 use Rattle.trex_vm.specs.Write.{bytes_in, sum_in, shifted, masked, number_at}
 use Rattle.trex_vm.specs.Packet.{after, after_all}
-use Rattle.trex_vm.specs.Cover.{IsWithin, Covers, CoversByte, CoversSegment, FixVerifies, HeaderVerifies}
-use Rattle.trex_vm.specs.Rules.{writes_past, has_ipv4, finds_header, misses_header}
+use Rattle.trex_vm.specs.Cover.{IsWithin, IsOfPseudoHeader, Covers, CoversByte, CoversSegment, FixVerifies, HeaderVerifies}
+use Rattle.trex_vm.specs.Rules.{writes_past, number_of, has_network, finds_header, misses_header}
 use Rattle.trex_sum.proofs.ChecksumLemmas.{Completes-plain}
-use Rattle.trex_vm.proofs.Fixed.{Completes-written_sum, HoldsField-header_at, HoldsField-segment_at, with_checksum-verifies, segment_fits-tells, number-same, pseudo_header-same, sum_place-within}
+use Rattle.trex_vm.proofs.Fixed.{places, Completes-written_sum, HoldsField-header_at, HoldsField-segment_at, with_checksum-verifies, segment_fits-tells, number-same, pseudo_header-same, sum_place-within}
 
 -- some bytes are put there, and the others are as they were
 pub record Puts (span : Span) (b c : List ℕ) : Type 0 where
@@ -52,8 +55,9 @@ Puts-if span b c false puts = inl refl
 -- a fix leaves the bytes, or writes its field
 fixed-puts : (fix : Fix) (b : List ℕ) → end_of (field_of fix) ≤ length b → (fixed fix b ≡ b) ⊎ Puts (field_of fix) b (fixed fix b)
 fixed-puts (Header at) b room = inr (Puts-with_checksum (λ n. n) (header_at at) (at + 10) b room)
-fixed-puts (Segment ip header kind) b room =
-    Puts-if (field_of (Segment ip header kind)) b _ (segment_fits kind ip header b) (Puts-with_checksum (written_sum kind) (segment_at kind ip header) (ip + header + sum_place kind) b room)
+fixed-puts (Segment version ip header kind) b room =
+    Puts-if (field_of (Segment version ip header kind)) b _ (segment_fits version kind ip header b)
+    (Puts-with_checksum (written_sum kind) (segment_at version kind ip header) (ip + header + sum_place kind) b room)
 
 maybe_fixed-puts : (fix : Option Fix) (b : List ℕ) → end_of (changed None fix) ≤ length b
     → (option_map_or (λ it. fixed it b) fix b ≡ b) ⊎ Puts (changed None fix) b (option_map_or (λ it. fixed it b) fix b)
@@ -112,61 +116,75 @@ pub after_all-append : (values : List VarValue) (xs ys : List Instr) (b : List �
 after_all-append values [] ys b = refl
 after_all-append values (x ∷ xs) ys b = after_all-append values xs ys (after values x b)
 
--- bytes in which the header that a fix names has one first byte and one protocol
+-- bytes in which the header that a fix names has one first byte and one protocol or next header
 abbrev pub SameKind : Fix → List ℕ → List ℕ → Type 0
-SameKind fix b c = (get_or b (header_of fix) 0 ≡ get_or c (header_of fix) 0) × (get_or b (header_of fix + 9) 0 ≡ get_or c (header_of fix + 9) 0)
+SameKind fix b c = (get_or b (header_of fix) 0 ≡ get_or c (header_of fix) 0) × (get_or b (protocol_place fix) 0 ≡ get_or c (protocol_place fix) 0)
 
 -- the same of the header that an instruction names
 abbrev pub SameHeader : Instr → List ℕ → List ℕ → Type 0
 SameHeader i b c = IfSome (fix_of i) (λ fix. SameKind fix b c)
 
--- what an IPv4 header at a place has
-pub record HasHeader (b : List ℕ) (limit at : ℕ) : Type 0 where
-  pub long : 20 ≤ header_length b at
-  pub within : at + header_length b at ≤ limit
+-- the parts of four tests that hold together, and the four from their parts
+four_parts : (a b c d : Bool) → (a && b && c && d) ≡ true → (a ≡ true) × (b ≡ true) × (c ≡ true) × (d ≡ true)
+four_parts a b c d all =
+    let three = and_parts (a && b && c) d all in
+    let two = and_parts (a && b) c three.0 in
+    let one = and_parts a b two.0 in
+    (one.0, one.1, two.1, three.1)
+
+four_from : (a b c d : Bool) → a ≡ true → b ≡ true → c ≡ true → d ≡ true → (a && b && c && d) ≡ true
+four_from a b c d first second third fourth = and_from (a && b && c) d (and_from (a && b) c (and_from a b first second) third) fourth
+
+-- what an IP header at a place has
+pub record HasHeader (version : IpVersion) (b : List ℕ) (limit at : ℕ) : Type 0 where
+  pub long : (network_of version).end ≤ network_length version (get_or b at 0)
+  pub within : at + network_length version (get_or b at 0) ≤ limit
 
 -- what a segment that a fix finds has
-pub record HasSegment (b : List ℕ) (limit ip header : ℕ) (kind : L4Kind) : Type 0 where
-  pub long : 20 ≤ header
+pub record HasSegment (version : IpVersion) (limit ip header : ℕ) (kind : L4Kind) : Type 0 where
+  pub long : (network_of version).end ≤ header
   pub within : ip + header + least_segment kind ≤ limit
 
-has_ipv4-tells : (b : List ℕ) (limit at : ℕ) → has_ipv4 b limit at ≡ true → HasHeader b limit at
-has_ipv4-tells b limit at has =
-    let cut = and_parts (nat_le (at + 20) limit && (get_or b at 0 / 16 == 4) && nat_le 20 (header_length b at)) (nat_le (at + header_length b at) limit) has in
-    let front = and_parts (nat_le (at + 20) limit && (get_or b at 0 / 16 == 4)) (nat_le 20 (header_length b at)) cut.0 in
-    record { long = leb-true 20 (header_length b at) front.1; within = leb-true (at + header_length b at) limit cut.1 }
+has_network-tells : (version : IpVersion) (b : List ℕ) (limit at : ℕ) → has_network version b limit at ≡ true → HasHeader version b limit at
+has_network-tells version b limit at has =
+    let all = four_parts (nat_le (at + (network_of version).end) limit) _ _ _ has in
+    record { long = leb-true _ _ all.2; within = leb-true _ _ all.3 }
 
 -- a fix of a segment finds it, and the header in front of it
-finds_segment : (b : List ℕ) (limit ip header : ℕ) (kind : L4Kind) → finds_header b limit (Segment ip header kind) ≡ true
-    → HasHeader b limit ip × HasSegment b limit ip header kind
-finds_segment b limit ip header kind found =
-    let same = header == header_length b ip in
-    let protocol = get_or b (ip + 9) 0 == protocol_of kind in
-    let fits = nat_le (ip + header + least_segment kind) limit in
-    let cut = and_parts (has_ipv4 b limit ip && same && protocol) fits found in
-    let front = and_parts (has_ipv4 b limit ip) same (and_parts (has_ipv4 b limit ip && same) protocol cut.0).0 in
-    let ipv4 = has_ipv4-tells b limit ip front.0 in
-    let is = eqb-true header (header_length b ip) front.1 in
-    (ipv4, record { long = omega (arith, ipv4.long); within = leb-true (ip + header + least_segment kind) limit cut.1 })
+finds_segment : (version : IpVersion) (b : List ℕ) (limit ip header : ℕ) (kind : L4Kind) → finds_header b limit (Segment version ip header kind) ≡ true
+    → HasHeader version b limit ip × HasSegment version limit ip header kind
+finds_segment version b limit ip header kind found =
+    let all = four_parts (has_network version b limit ip) _ _ _ found in
+    let has = has_network-tells version b limit ip all.0 in
+    let is = eqb-true header (network_length version (get_or b ip 0)) all.1 in
+    (has, record { long = omega (arith, is, has.long); within = leb-true (ip + header + least_segment kind) limit all.3 })
 
--- the header that a fix finds has 20 bytes within the room
-pub finds_header-long : (fix : Fix) (b : List ℕ) (limit : ℕ) → finds_header b limit fix ≡ true → header_of fix + 20 ≤ limit
-finds_header-long (Header at) b limit found = let has = has_ipv4-tells b limit at found in omega (arith, has.long, has.within)
-finds_header-long (Segment ip header kind) b limit found = let has = (finds_segment b limit ip header kind found).0 in omega (arith, has.long, has.within)
+-- the header that a fix finds lies within the room
+pub finds_header-long : (fix : Fix) (b : List ℕ) (limit : ℕ) → finds_header b limit fix ≡ true → header_of fix + (network_of (ip_version fix)).end ≤ limit
+finds_header-long (Header at) b limit found = let has = has_network-tells V4 b limit at found in omega (arith, has.long, has.within)
+finds_header-long (Segment version ip header kind) b limit found =
+    let has = (finds_segment version b limit ip header kind found).0 in omega (arith, has.long, has.within)
 
 -- a fix that finds its header writes within the room
 field_of-within : (fix : Fix) (b : List ℕ) (limit : ℕ) → finds_header b limit fix ≡ true → end_of (field_of fix) ≤ limit
-field_of-within (Header at) b limit found = let has = has_ipv4-tells b limit at found in omega (arith, has.long, has.within)
-field_of-within (Segment ip header kind) b limit found =
-    let has = finds_segment b limit ip header kind found in omega (arith, sum_place-within kind, has.1.within)
+field_of-within (Header at) b limit found = let has = has_network-tells V4 b limit at found in omega (arith, has.long, has.within)
+field_of-within (Segment version ip header kind) b limit found =
+    let has = finds_segment version b limit ip header kind found in omega (arith, sum_place-within kind, has.1.within)
+
+-- a header is found by its first byte, and for a segment by its protocol or next header as well
+has_network-same : (version : IpVersion) (b c : List ℕ) (limit at : ℕ) → get_or b at 0 ≡ get_or c at 0 → has_network version b limit at ≡ has_network version c limit at
+has_network-same version b c limit at same =
+    let least = (network_of version).end in
+    ap (λ (x : ℕ). nat_le (at + least) limit && (x / 16 == number_of version) && nat_le least (network_length version x) && nat_le (at + network_length version x) limit) same
 
 finds_header-same : (fix : Fix) (b c : List ℕ) (limit : ℕ) → SameKind fix b c → finds_header b limit fix ≡ finds_header c limit fix
-finds_header-same (Header at) b c limit same =
-    ap (λ (x : ℕ). nat_le (at + 20) limit && (x / 16 == 4) && nat_le 20 (x % 16 * 4) && nat_le (at + x % 16 * 4) limit) same.0
-finds_header-same (Segment ip header kind) b c limit same =
+finds_header-same (Header at) b c limit same = has_network-same V4 b c limit at same.0
+finds_header-same (Segment version ip header kind) b c limit same =
     let fits = nat_le (ip + header + least_segment kind) limit in
-    ap (λ (x : ℕ). nat_le (ip + 20) limit && (x / 16 == 4) && nat_le 20 (x % 16 * 4) && nat_le (ip + x % 16 * 4) limit && (header == x % 16 * 4) && (get_or b (ip + 9) 0 == protocol_of kind) && fits) same.0
-    ∙ ap (λ (y : ℕ). has_ipv4 c limit ip && (header == header_length c ip) && (y == protocol_of kind) && fits) same.1
+    let protocol = get_or b (ip + (network_of version).protocol) 0 == protocol_of kind in
+    ap (λ (has : Bool). has && (header == network_length version (get_or b ip 0)) && protocol && fits) (has_network-same version b c limit ip same.0)
+    ∙ ap (λ (x : ℕ). has_network version c limit ip && (header == network_length version x) && protocol && fits) same.0
+    ∙ ap (λ (y : ℕ). has_network version c limit ip && (header == network_length version (get_or c ip 0)) && (y == protocol_of kind) && fits) same.1
 
 -- an instruction finds its header wherever those bytes are the same
 pub misses_header-same : (i : Instr) (b c : List ℕ) (limit : ℕ) → SameHeader i b c → misses_header b limit i ≡ misses_header c limit i
@@ -179,30 +197,18 @@ misses_header-same i b c limit = by_fix (fix_of i)
 more_room : (n limit wide : ℕ) → limit ≤ wide → nat_le n limit ≡ true → nat_le n wide ≡ true
 more_room n limit wide more within = le-leb n wide (omega (arith, leb-true n limit within))
 
-has_ipv4-wider : (b : List ℕ) (limit wide at : ℕ) → limit ≤ wide → has_ipv4 b limit at ≡ true → has_ipv4 b wide at ≡ true
-has_ipv4-wider b limit wide at more has =
-    let version = get_or b at 0 / 16 == 4 in
-    let long = nat_le 20 (header_length b at) in
-    let cut = and_parts (nat_le (at + 20) limit && version && long) (nat_le (at + header_length b at) limit) has in
-    let middle = and_parts (nat_le (at + 20) limit && version) long cut.0 in
-    let front = and_parts (nat_le (at + 20) limit) version middle.0 in
-    and_from (nat_le (at + 20) wide && version && long) (nat_le (at + header_length b at) wide)
-    (and_from (nat_le (at + 20) wide && version) long (and_from (nat_le (at + 20) wide) version (more_room (at + 20) limit wide more front.0) front.1) middle.1)
-    (more_room (at + header_length b at) limit wide more cut.1)
+has_network-wider : (version : IpVersion) (b : List ℕ) (limit wide at : ℕ) → limit ≤ wide → has_network version b limit at ≡ true → has_network version b wide at ≡ true
+has_network-wider version b limit wide at more has =
+    let header = network_length version (get_or b at 0) in
+    let all = four_parts (nat_le (at + (network_of version).end) limit) _ _ _ has in
+    four_from _ _ _ (nat_le (at + header) wide) (more_room (at + (network_of version).end) limit wide more all.0) all.1 all.2 (more_room (at + header) limit wide more all.3)
 
 finds_header-wider : (fix : Fix) (b : List ℕ) (limit wide : ℕ) → limit ≤ wide → finds_header b limit fix ≡ true → finds_header b wide fix ≡ true
-finds_header-wider (Header at) b limit wide more found = has_ipv4-wider b limit wide at more found
-finds_header-wider (Segment ip header kind) b limit wide more found =
-    let same = header == header_length b ip in
-    let protocol = get_or b (ip + 9) 0 == protocol_of kind in
-    let near = nat_le (ip + header + least_segment kind) limit in
-    let far = nat_le (ip + header + least_segment kind) wide in
-    let cut = and_parts (has_ipv4 b limit ip && same && protocol) near found in
-    let middle = and_parts (has_ipv4 b limit ip && same) protocol cut.0 in
-    let front = and_parts (has_ipv4 b limit ip) same middle.0 in
-    and_from (has_ipv4 b wide ip && same && protocol) far
-    (and_from (has_ipv4 b wide ip && same) protocol (and_from (has_ipv4 b wide ip) same (has_ipv4-wider b limit wide ip more front.0) front.1) middle.1)
-    (more_room (ip + header + least_segment kind) limit wide more cut.1)
+finds_header-wider (Header at) b limit wide more found = has_network-wider V4 b limit wide at more found
+finds_header-wider (Segment version ip header kind) b limit wide more found =
+    let all = four_parts (has_network version b limit ip) _ _ _ found in
+    four_from _ _ _ (nat_le (ip + header + least_segment kind) wide) (has_network-wider version b limit wide ip more all.0) all.1 all.2
+    (more_room (ip + header + least_segment kind) limit wide more all.3)
 
 -- and within every wider room
 pub misses_header-wider : (i : Instr) (b : List ℕ) (limit wide : ℕ) → limit ≤ wide → misses_header b limit i ≡ false → misses_header b wide i ≡ false
@@ -231,20 +237,20 @@ place-within i b limit = by_effect (write_of i) (fix_of i)
     by_effect None None within found = omega arith
 
 -- a segment verifies after its fix, whether it fits or not
-segment-verifies : (kind : L4Kind) (ip header : ℕ) (b : List ℕ) (t : Bool) → 20 ≤ header → t ≡ segment_fits kind ip header b
-    → FixVerifies (Segment ip header kind) (cond t (with_checksum (written_sum kind) (segment_at kind ip header) (ip + header + sum_place kind) b) b)
-segment-verifies kind ip header b true long fits =
-    λ _. with_checksum-verifies (written_sum kind) (segment_at kind ip header) (ip + header + sum_place kind) b (Completes-written_sum kind)
-    (HoldsField-segment_at kind ip header b long (sym fits))
-segment-verifies kind ip header b false long fits = λ now. absurd (false≢true (fits ∙ now))
+segment-verifies : (version : IpVersion) (kind : L4Kind) (ip header : ℕ) (b : List ℕ) (t : Bool) → (network_of version).end ≤ header → t ≡ segment_fits version kind ip header b
+    → FixVerifies (Segment version ip header kind) (cond t (with_checksum (written_sum kind) (segment_at version kind ip header) (ip + header + sum_place kind) b) b)
+segment-verifies version kind ip header b true long fits =
+    λ _. with_checksum-verifies (written_sum kind) (segment_at version kind ip header) (ip + header + sum_place kind) b (Completes-written_sum kind)
+    (HoldsField-segment_at version kind ip header b long (sym fits))
+segment-verifies version kind ip header b false long fits = λ now. absurd (false≢true (fits ∙ now))
 
 -- right after its fix a header verifies
 fixed-verifies : (fix : Fix) (b : List ℕ) → finds_header b (length b) fix ≡ true → FixVerifies fix (fixed fix b)
 fixed-verifies (Header at) b found =
-    let has = has_ipv4-tells b (length b) at found in
+    let has = has_network-tells V4 b (length b) at found in
     with_checksum-verifies (λ n. n) (header_at at) (at + 10) b Completes-plain (HoldsField-header_at at b has.long has.within)
-fixed-verifies (Segment ip header kind) b found =
-    segment-verifies kind ip header b (segment_fits kind ip header b) (finds_segment b (length b) ip header kind found).1.long refl
+fixed-verifies (Segment version ip header kind) b found =
+    segment-verifies version kind ip header b (segment_fits version kind ip header b) (finds_segment version b (length b) ip header kind found).1.long refl
 
 maybe_fixed-verifies : (fix : Option Fix) (b : List ℕ) → option_map_or (λ it. not (finds_header b (length b) it)) fix false ≡ false
     → IfSome fix (λ it. FixVerifies it (option_map_or (λ one. fixed one b) fix b))
@@ -264,46 +270,48 @@ header_at-same at b c long first agree =
     ∙ slice_range-same at (at + header_length c at) b c long (λ k low high. agree k (low, high))
 
 -- the covered bytes tell a segment's length
-segment_length-same : (kind : L4Kind) (ip header : ℕ) (b c : List ℕ) → least_segment kind ≤ segment_length kind ip header c
-    → ((k : ℕ) → CoversSegment kind ip header c k → get_or b k 0 ≡ get_or c k 0) → segment_length kind ip header b ≡ segment_length kind ip header c
-segment_length-same Udp ip header b c long agree =
+segment_length-same : (version : IpVersion) (kind : L4Kind) (ip header : ℕ) (b c : List ℕ) → least_segment kind ≤ segment_length version kind ip header c
+    → ((k : ℕ) → CoversSegment version kind ip header c k → get_or b k 0 ≡ get_or c k 0) → segment_length version kind ip header b ≡ segment_length version kind ip header c
+segment_length-same version Udp ip header b c long agree =
     number-same (ip + header + 4) b c (agree (ip + header + 4) (inl (omega arith, omega arith))) (agree (ip + header + 4 + 1) (inl (omega arith, omega arith)))
-segment_length-same Tcp ip header b c long agree =
-    ap (λ (n : ℕ). n - header) (number-same (ip + 2) b c (agree (ip + 2) (inr (inr (inr (omega arith, omega arith))))) (agree (ip + 2 + 1) (inr (inr (inr (omega arith, omega arith))))))
+segment_length-same version Tcp ip header b c long agree =
+    let at = ip + (network_of version).length in
+    ap (left_for_segment version header) (number-same at b c (agree at (inr (inr (omega arith, omega arith)))) (agree (at + 1) (inr (inr (omega arith, omega arith)))))
 
-Covers-segment : (kind : L4Kind) (ip header : ℕ) (c : List ℕ) (k : ℕ) → IsWithin (ip + header) (segment_length kind ip header c) k → CoversSegment kind ip header c k
-Covers-segment Udp ip header c k within = inl within
-Covers-segment Tcp ip header c k within = inl within
+Covers-segment : (version : IpVersion) (kind : L4Kind) (ip header : ℕ) (c : List ℕ) (k : ℕ) → IsWithin (ip + header) (segment_length version kind ip header c) k
+    → CoversSegment version kind ip header c k
+Covers-segment version Udp ip header c k within = inl within
+Covers-segment version Tcp ip header c k within = inl within
 
-Covers-protocol : (kind : L4Kind) (ip header : ℕ) (c : List ℕ) → CoversSegment kind ip header c (ip + 9)
-Covers-protocol Udp ip header c = inr (inl refl)
-Covers-protocol Tcp ip header c = inr (inl refl)
+Covers-pseudo : (version : IpVersion) (kind : L4Kind) (ip header : ℕ) (c : List ℕ) (k : ℕ) → IsOfPseudoHeader (network_of version) ip k → CoversSegment version kind ip header c k
+Covers-pseudo version Udp ip header c k is = inr is
+Covers-pseudo version Tcp ip header c k is = inr (inl is)
 
-Covers-addresses : (kind : L4Kind) (ip header : ℕ) (c : List ℕ) (k : ℕ) → IsWithin (ip + 12) 8 k → CoversSegment kind ip header c k
-Covers-addresses Udp ip header c k within = inr (inr within)
-Covers-addresses Tcp ip header c k within = inr (inr (inl within))
-
-segment_at-same : (kind : L4Kind) (ip header : ℕ) (b c : List ℕ) → length b ≡ length c → segment_length kind ip header b ≡ segment_length kind ip header c
-    → ((k : ℕ) → CoversSegment kind ip header c k → get_or b k 0 ≡ get_or c k 0) → segment_at kind ip header b ≡ segment_at kind ip header c
+segment_at-same : (version : IpVersion) (kind : L4Kind) (ip header : ℕ) (b c : List ℕ) → length b ≡ length c → segment_length version kind ip header b ≡ segment_length version kind ip header c
+    → ((k : ℕ) → CoversSegment version kind ip header c k → get_or b k 0 ≡ get_or c k 0) → segment_at version kind ip header b ≡ segment_at version kind ip header c
 unfolding segment_at
-segment_at-same kind ip header b c long len agree =
-    ap (λ (n : ℕ). pseudo_header ip n b ++ slice_range b (ip + header) (ip + header + n)) len
-    ∙ ap (λ (xs : List ℕ). xs ++ slice_range b (ip + header) (ip + header + segment_length kind ip header c))
-    (pseudo_header-same ip (segment_length kind ip header c) b c long (agree (ip + 9) (Covers-protocol kind ip header c)) (λ k low high. agree k (Covers-addresses kind ip header c k (low, omega arith))))
-    ∙ ap (λ (xs : List ℕ). pseudo_header ip (segment_length kind ip header c) c ++ xs)
-    (slice_range-same (ip + header) (ip + header + segment_length kind ip header c) b c long (λ k low high. agree k (Covers-segment kind ip header c k (low, high))))
+segment_at-same version kind ip header b c long len agree =
+    let net = network_of version in
+    let n = segment_length version kind ip header c in
+    let within = (places version).within_addresses in
+    ap (λ (m : ℕ). pseudo_header version ip m b ++ slice_range b (ip + header) (ip + header + m)) len
+    ∙ ap (λ (xs : List ℕ). xs ++ slice_range b (ip + header) (ip + header + n))
+    (pseudo_header-same version ip n b c long (agree (ip + net.protocol) (Covers-pseudo version kind ip header c (ip + net.protocol) (inl refl)))
+    (λ k low high. agree k (Covers-pseudo version kind ip header c k (inr (low, omega arith)))))
+    ∙ ap (λ (xs : List ℕ). pseudo_header version ip n c ++ xs)
+    (slice_range-same (ip + header) (ip + header + n) b c long (λ k low high. agree k (Covers-segment version kind ip header c k (low, high))))
 
 -- what verifies in some bytes verifies in others that have the same covered bytes
 FixVerifies-same : (fix : Fix) (b c : List ℕ) → length b ≡ length c → SameKind fix b c → ((k : ℕ) → CoversByte fix c k → get_or b k 0 ≡ get_or c k 0)
     → FixVerifies fix b → FixVerifies fix c
 FixVerifies-same (Header at) b c long same agree verifies = rw (sym (header_at-same at b c long same.0 agree)) verifies
-FixVerifies-same (Segment ip header kind) b c long same agree verifies = λ fits.
-    let known = segment_fits-tells kind ip header c fits in
-    let len = segment_length-same kind ip header b c known.0 agree in
-    let fit : segment_fits kind ip header b ≡ segment_fits kind ip header c =
+FixVerifies-same (Segment version ip header kind) b c long same agree verifies = λ fits.
+    let known = segment_fits-tells version kind ip header c fits in
+    let len = segment_length-same version kind ip header b c known.0 agree in
+    let fit : segment_fits version kind ip header b ≡ segment_fits version kind ip header c =
     ap (λ (n : ℕ). nat_le (least_segment kind) n && nat_le (ip + header + n) (length b)) len
-    ∙ ap (λ (n : ℕ). nat_le (least_segment kind) (segment_length kind ip header c) && nat_le (ip + header + segment_length kind ip header c) n) long in
-    rw (sym (segment_at-same kind ip header b c long len agree)) (verifies (fit ∙ fits))
+    ∙ ap (λ (n : ℕ). nat_le (least_segment kind) (segment_length version kind ip header c) && nat_le (ip + header + segment_length version kind ip header c) n) long in
+    rw (sym (segment_at-same version kind ip header b c long len agree)) (verifies (fit ∙ fits))
 
 pub HeaderVerifies-same : (i : Instr) (b c : List ℕ) → length b ≡ length c → SameHeader i b c → ((k : ℕ) → Covers i c k → get_or b k 0 ≡ get_or c k 0)
     → HeaderVerifies i b → HeaderVerifies i c

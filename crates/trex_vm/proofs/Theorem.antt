@@ -1,6 +1,6 @@
 -- Lists of instructions: each finds its header when its turn comes, and what was fixed verifies at the end.
-use Rattle.std.proofs.Common.{◌≡◌, ℕ, ◌+◌, ◌-◌, ◌<◌, ◌≤◌, List, [], ◌∷◌, ◌++◌, length, get_or, take, refl, sym, ap, subst, ◌∙◌, arith, cond, Bool, true, false, not, Option, Some, None, is_some, All, IfSome}
-use Rattle.std.proofs.lemmas.Bool.{false≢true, false_from_ne_true, not-false, or_parts}
+use Rattle.std.proofs.Common.{◌≡◌, ℕ, ◌+◌, ◌-◌, ◌<◌, ◌≤◌, List, [], ◌∷◌, ◌++◌, length, get_or, take, refl, sym, ap, subst, ◌∙◌, arith, Bool, false, not, Option, Some, None, All, IfSome}
+use Rattle.std.proofs.lemmas.Bool.{false≢true, false_from_ne_true, ltb-false, not-false, or_parts}
 use Rattle.std.proofs.lemmas.List.{get_or-take, length-take-le, take_more}
 use Rattle.std.proofs.lemmas.List.Elements.{recursion_from_All, All-from_recursion, All-take}
 use Rattle.std.proofs.lemmas.List.Folds.{list_any_at}
@@ -8,16 +8,19 @@ use Rattle.std.specs.List.{AllByRecursion, list_any}
 use Rattle.std.specs.Option.{option_map_or}
 use Rattle.trex_fields.proofs.BytesLemmas.{length-put, get_or-put_before}
 use Rattle.trex_stamp.specs.declared.header.Stamp.{Stamp}
-use Rattle.trex_stamp.specs.Stamp.{stamp_bytes}
+use Rattle.trex_stamp.specs.declared.header.Version.{Version}
+use Rattle.trex_stamp.specs.Stamp.{shortest_stamped, size_of, stamp_bytes}
+use Rattle.trex_stamp.proofs.StampLemmas.{length-stamp_bytes}
 use Rattle.trex_vars.specs.declared.value.VarValue.{VarValue}
 use Rattle.trex_vm.specs.declared.effect.Fix.{Fix}
 use Rattle.trex_vm.specs.declared.instr.Instr.{Instr}
 use Rattle.trex_vm.specs.Effect.{end_of, fix_of, span_of, writes_byte}
-use Rattle.trex_vm.specs.Fix.{header_of}
-use Rattle.trex_vm.specs.Packet.{after, after_all, trimmed, stamped, stamped_template, packet}
+use Rattle.trex_vm.specs.Fix.{header_of, ip_version, protocol_place}
+use Rattle.trex_vm.specs.Packet.{after, after_all, trimmed, version_of, stamped, stamped_template, packet}
 use Rattle.trex_vm.specs.Cover.{Covers, StaysFixed, HeaderVerifies}
-use Rattle.trex_vm.specs.Rules.{writes_past, finds_header, misses_header, overwrites_kind, overwrites_kind_of, overwrites_header_kind}
+use Rattle.trex_vm.specs.Rules.{header_size, no_room_for_stamp, writes_past, finds_header, misses_header, overwrites_kind, overwrites_kind_of, overwrites_header_kind}
 use Rattle.trex_vm.specs.Program.{ProgramView, room, IsProgram, IsTemplateOf, AreValuesOf}
+use Rattle.trex_vm.proofs.Fixed.{places}
 use Rattle.trex_vm.proofs.Steps.{SameKind, SameHeader, length-after, length-after_all, get_or-after_all, after_all-append, finds_header-long, misses_header-same, misses_header-wider, writes_past-wider, place-within, after-verifies, HeaderVerifies-same}
 
 -- a test that no instruction of a list passes fails at each
@@ -46,16 +49,17 @@ after_all-more values instrs b i d below = ap (λ (xs : List Instr). after_all v
 All-places : (instrs : List Instr) (b : List ℕ) (limit : ℕ) → Fit instrs b limit → All (λ i. end_of (span_of i) ≤ limit) instrs
 All-places instrs b limit fit = λ k d below. place-within (get_or instrs k d) b limit (fit.places k d below) (fit.headers k d below)
 
--- instructions that don't overwrite a header's kind keep its first byte and its protocol
+-- instructions that don't overwrite a header's kind keep its first byte and its protocol or next header
 keeps_header : (values : List VarValue) (instrs : List Instr) (b : List ℕ) (n : ℕ) (fix : Fix) → All (λ i. end_of (span_of i) ≤ n) instrs → n ≤ length b
     → All (λ i. overwrites_kind i fix ≡ false) instrs → SameKind fix b (after_all values instrs b)
 keeps_header values instrs b n fix places wide keeps =
     let at = header_of fix in
+    let protocol = protocol_place fix in
     let within = recursion_from_All (λ i. end_of (span_of i) ≤ n) instrs places in
-    let both : (k : ℕ) (d : Instr) → k < length instrs → (writes_byte (get_or instrs k d) at ≡ false) × (writes_byte (get_or instrs k d) (at + 9) ≡ false) =
-    λ k d below. or_parts (writes_byte (get_or instrs k d) at) (writes_byte (get_or instrs k d) (at + 9)) (keeps k d below) in (
+    let both : (k : ℕ) (d : Instr) → k < length instrs → (writes_byte (get_or instrs k d) at ≡ false) × (writes_byte (get_or instrs k d) protocol ≡ false) =
+    λ k d below. or_parts (writes_byte (get_or instrs k d) at) (writes_byte (get_or instrs k d) protocol) (keeps k d below) in (
       sym (get_or-after_all values instrs b n at within wide (recursion_from_All (λ i. writes_byte i at ≡ false) instrs (λ k d below. (both k d below).0))),
-      sym (get_or-after_all values instrs b n (at + 9) within wide (recursion_from_All (λ i. writes_byte i (at + 9) ≡ false) instrs (λ k d below. (both k d below).1))),
+      sym (get_or-after_all values instrs b n protocol within wide (recursion_from_All (λ i. writes_byte i protocol ≡ false) instrs (λ k d below. (both k d below).1))),
     )
 
 SameHeader-after_all : (values : List VarValue) (instrs : List Instr) (i : Instr) (b : List ℕ) (n : ℕ) → All (λ j. end_of (span_of j) ≤ n) instrs → n ≤ length b → KeepsKinds instrs i
@@ -81,22 +85,23 @@ Fit-in_turn values instrs b i d fit below =
       misses_header-wider it c (length b) (length c) (omega arith) (sym (misses_header-same it b c (length b) same) ∙ fit.headers i d below),
     )
 
-pub length-stamped : (stamp : Option Stamp) (b : List ℕ) → (is_some stamp ≡ true → 16 ≤ length b) → length (stamped stamp b) ≡ length b
+pub length-stamped : (stamp : Option Stamp) (b : List ℕ) → header_size (version_of stamp) ≤ length b → length (stamped stamp b) ≡ length b
 length-stamped None b long = refl
-length-stamped (Some s) b long = let wide = long refl in length-put (length b - 16) (stamp_bytes s) b (omega arith)
+length-stamped (Some s) b long = length-put (length b - size_of s.version) (stamp_bytes s) b (omega (arith, length-stamp_bytes s))
 
 -- the bytes in front of the latency header stay
-get_or-stamped : (stamp : Option Stamp) (b : List ℕ) (k : ℕ) → (is_some stamp ≡ true → 16 ≤ length b)
-    → k < cond (is_some stamp) (length b - 16) (length b) → get_or (stamped stamp b) k 0 ≡ get_or b k 0
+get_or-stamped : (stamp : Option Stamp) (b : List ℕ) (k : ℕ) → header_size (version_of stamp) ≤ length b → k < length b - header_size (version_of stamp)
+    → get_or (stamped stamp b) k 0 ≡ get_or b k 0
 get_or-stamped None b k long below = refl
-get_or-stamped (Some s) b k long below = let wide = long refl in get_or-put_before (length b - 16) (stamp_bytes s) b k 0 (omega arith) below
+get_or-stamped (Some s) b k long below =
+    get_or-put_before (length b - size_of s.version) (stamp_bytes s) b k 0 (omega (arith, length-stamp_bytes s)) below
 
 -- what a run of a program knows
 pub record Runs (p : ProgramView) (values : List VarValue) (stamp : Option Stamp) (template : List ℕ) : Type 0 where
   pub program : IsProgram p
   pub meant : IsTemplateOf p template
   pub valued : AreValuesOf p values
-  pub stamps : is_some stamp ≡ p.stamps
+  pub stamps : version_of stamp ≡ p.stamp
 
 -- the packet's length
 abbrev pub cut : ProgramView → List VarValue → List ℕ → ℕ
@@ -109,25 +114,20 @@ Runs-cut p values stamp template runs =
     let same : cut p values template ≡ trimmed values p.instrs p.template = ap (trimmed values p.instrs) runs.meant.long in
     (omega (arith, runs.valued.least), omega (arith, runs.valued.most, runs.meant.long))
 
-pub Runs-long : (p : ProgramView) (values : List VarValue) (stamp : Option Stamp) (template : List ℕ) → Runs p values stamp template → is_some stamp ≡ true
-    → 16 ≤ cut p values template
-Runs-long p values stamp template runs is =
-    let least = runs.program.stamp (sym runs.stamps ∙ is) in omega (arith, (Runs-cut p values stamp template runs).0)
+-- a packet with room for its latency header is no shorter than that
+header_size-room : (stamp : Option Version) (shortest : ℕ) → no_room_for_stamp shortest stamp ≡ false → header_size stamp ≤ shortest
+header_size-room None shortest room = omega arith
+header_size-room (Some version) shortest room = omega (arith, ltb-false shortest (shortest_stamped version) room)
 
-room-le : (t : Bool) (least long : ℕ) → least ≤ long → cond t (least - 16) least ≤ cond t (long - 16) long
-room-le true least long le = omega arith
-room-le false least long le = le
+pub Runs-long : (p : ProgramView) (values : List VarValue) (stamp : Option Stamp) (template : List ℕ) → Runs p values stamp template
+    → header_size (version_of stamp) ≤ cut p values template
+Runs-long p values stamp template runs =
+    omega (arith, ap header_size runs.stamps, header_size-room p.stamp p.least runs.program.stamp, (Runs-cut p values stamp template runs).0)
 
 -- the room ends in front of the latency header
 pub Runs-room : (p : ProgramView) (values : List VarValue) (stamp : Option Stamp) (template : List ℕ) → Runs p values stamp template
-    → room p ≤ cond (is_some stamp) (cut p values template - 16) (cut p values template)
-Runs-room p values stamp template runs =
-    let P : Bool → Type 0 = λ t. room p ≤ cond t (cut p values template - 16) (cut p values template) in
-    subst P (sym runs.stamps) (room-le p.stamps p.least (cut p values template) (Runs-cut p values stamp template runs).0)
-
-room-long : (t : Bool) (long : ℕ) → cond t (long - 16) long ≤ long
-room-long true long = omega arith
-room-long false long = omega arith
+    → room p ≤ cut p values template - header_size (version_of stamp)
+Runs-room p values stamp template runs = omega (arith, ap header_size runs.stamps, (Runs-cut p values stamp template runs).0)
 
 -- the stamped template has the template's bytes within the room
 get_or-stamped_template : (p : ProgramView) (values : List VarValue) (stamp : Option Stamp) (template : List ℕ) (k : ℕ) → Runs p values stamp template → k < room p
@@ -137,10 +137,9 @@ get_or-stamped_template p values stamp template k runs below =
     let sizes = Runs-cut p values stamp template runs in
     let b = take n template in
     let long : length b ≡ n = length-take-le n template sizes.1 in
-    let wide : is_some stamp ≡ true → 16 ≤ length b = λ is. omega (arith, Runs-long p values stamp template runs is) in
-    let P : ℕ → Type 0 = λ m. k < cond (is_some stamp) (m - 16) m in
-    let front_room : k < cond (is_some stamp) (n - 16) n = omega (arith, Runs-room p values stamp template runs) in
-    sym (get_or-stamped stamp b k wide (subst P (sym long) front_room) ∙ get_or-take n template k 0 (omega (arith, room-long (is_some stamp) n)))
+    let wide : header_size (version_of stamp) ≤ length b = omega (arith, Runs-long p values stamp template runs) in
+    let front : k < length b - header_size (version_of stamp) = omega (arith, Runs-room p values stamp template runs) in
+    sym (get_or-stamped stamp b k wide front ∙ get_or-take n template k 0 (omega (arith, Runs-room p values stamp template runs)))
 
 SameHeader-stamped_template : (i : Instr) (p : ProgramView) (values : List VarValue) (stamp : Option Stamp) (template : List ℕ) → Runs p values stamp template
     → misses_header template (room p) i ≡ false → SameHeader i template (stamped_template p.instrs values stamp template)
@@ -150,14 +149,15 @@ SameHeader-stamped_template i p values stamp template runs = by_fix (fix_of i)
     by_fix None found = tt
     by_fix (Some fix) found =
         let long = finds_header-long fix template (room p) (not-false (finds_header template (room p) fix) found) in
-        (get_or-stamped_template p values stamp template (header_of fix) runs (omega (arith, long)), get_or-stamped_template p values stamp template (header_of fix + 9) runs (omega (arith, long)))
+        let within = (places (ip_version fix)).within_protocol in
+        (get_or-stamped_template p values stamp template (header_of fix) runs (omega (arith, long)), get_or-stamped_template p values stamp template (protocol_place fix) runs (omega (arith, long)))
 
 pub length-stamped_template : (p : ProgramView) (values : List VarValue) (stamp : Option Stamp) (template : List ℕ) → Runs p values stamp template
     → length (stamped_template p.instrs values stamp template) ≡ cut p values template
 length-stamped_template p values stamp template runs =
     let n = cut p values template in
     let long : length (take n template) ≡ n = length-take-le n template (Runs-cut p values stamp template runs).1 in
-    length-stamped stamp (take n template) (λ is. omega (arith, Runs-long p values stamp template runs is)) ∙ long
+    length-stamped stamp (take n template) (omega (arith, Runs-long p values stamp template runs)) ∙ long
 
 -- the program's instructions fit its stamped template
 pub Fit-stamped_template : (p : ProgramView) (values : List VarValue) (stamp : Option Stamp) (template : List ℕ) → Runs p values stamp template
@@ -165,7 +165,7 @@ pub Fit-stamped_template : (p : ProgramView) (values : List VarValue) (stamp : O
 Fit-stamped_template p values stamp template runs =
     let b = stamped_template p.instrs values stamp template in
     let n = cut p values template in
-    let wide : room p ≤ n = omega (arith, Runs-room p values stamp template runs, room-long (is_some stamp) n) in
+    let wide : room p ≤ n = omega (arith, Runs-room p values stamp template runs) in
     let places = none_pass (writes_past (room p)) p.instrs runs.program.places in
     let headers = none_pass (misses_header template (room p)) p.instrs runs.meant.headers in
     record {

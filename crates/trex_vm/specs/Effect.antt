@@ -1,10 +1,12 @@
 -- What an instruction does to a packet, by three projections: each kind of instruction writes a number, fixes a checksum or cuts the packet. Own.
 use Rattle.std.specs.Prelude.{ℕ, ◌+◌, Bool, ◌&&◌, nat_le, nat_lt, Option, Some, None}
+use Rattle.trex_headers.specs.declared.constants.TheConstants.{IPV6_LEN}
+use Rattle.trex_headers.specs.declared.layer.Version.TheVariants.{V4, V6}
 use Rattle.trex_vm.specs.declared.effect.Fix.{Fix}
 use Rattle.trex_vm.specs.declared.effect.Fix.TheVariants.{Header, Segment}
 use Rattle.trex_vm.specs.declared.effect.Span.{Span}
 use Rattle.trex_vm.specs.declared.instr.Instr.{Instr}
-use Rattle.trex_vm.specs.declared.instr.Instr.TheVariants.{Write, WriteMask, FixIpv4, FixL4, Trim}
+use Rattle.trex_vm.specs.declared.instr.Instr.TheVariants.{Write, WriteMask, FixIpv4, FixL4, FixL6, Trim}
 use Rattle.trex_vm.specs.declared.instr.Operand.{Operand}
 use Rattle.trex_vm.specs.Fix.{field_of}
 
@@ -21,7 +23,8 @@ write_of _ = None
 -- what a fix writes the checksum of
 abbrev pub fix_of : Instr → Option Fix
 fix_of (FixIpv4 at) = Some (Header at)
-fix_of (FixL4 ip header kind) = Some (Segment ip header kind)
+fix_of (FixL4 ip header kind) = Some (Segment V4 ip header kind)
+fix_of (FixL6 ip kind) = Some (Segment V6 ip IPV6_LEN kind)
 fix_of _ = None
 
 -- the operand whose number of bytes a trim leaves

@@ -1,10 +1,10 @@
 -- A packet, made of its template. Own.
 use Rattle.std.specs.Prelude.{ℕ, ◌-◌, List, [], ◌∷◌, length, take, Option, Some, None}
-use Rattle.std.specs.Option.{option_map_or}
+use Rattle.std.specs.Option.{option_map, option_map_or}
 use Rattle.trex_fields.specs.Bytes.{put}
 use Rattle.trex_stamp.specs.declared.header.Stamp.{Stamp}
-use Rattle.trex_stamp.specs.declared.header.TheConstants.{STAMP_SIZE}
-use Rattle.trex_stamp.specs.Stamp.{stamp_bytes}
+use Rattle.trex_stamp.specs.declared.header.Version.{Version}
+use Rattle.trex_stamp.specs.Stamp.{size_of, stamp_bytes}
 use Rattle.trex_vars.specs.declared.value.VarValue.{VarValue}
 use Rattle.trex_vm.specs.declared.instr.Instr.{Instr}
 use Rattle.trex_vm.specs.declared.instr.Instr.TheVariants.{Write, WriteMask}
@@ -28,10 +28,14 @@ abbrev pub trimmed : List VarValue → List Instr → ℕ → ℕ
 trimmed values [] whole = whole
 trimmed values (instr ∷ rest) whole = option_map_or (number_in values) (trim_of instr) (trimmed values rest whole)
 
+-- the version of a latency header, where there is one
+abbrev pub version_of : Option Stamp → Option Version
+version_of stamp = option_map (λ s. s.version) stamp
+
 -- the bytes with the latency header, where there is one, in place of the last bytes
 abbrev pub stamped : Option Stamp → List ℕ → List ℕ
 stamped None bytes = bytes
-stamped (Some s) bytes = put (length bytes - STAMP_SIZE) (stamp_bytes s) bytes
+stamped (Some s) bytes = put (length bytes - size_of s.version) (stamp_bytes s) bytes
 
 -- the packet before its instructions: the template, cut to its length, and stamped
 abbrev pub stamped_template : List Instr → List VarValue → Option Stamp → List ℕ → List ℕ

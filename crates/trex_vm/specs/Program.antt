@@ -1,33 +1,34 @@
 -- Programs, and for which templates and values they are meant. Own.
-use Rattle.std.specs.Prelude.{◌≡◌, ℕ, ◌<◌, ◌≤◌, negsuc, pos, ◌≤ℤ◌, Bool, false, IsTrue, List, length, None, IfSome, All}
-use Rattle.std.specs.List.{list_any, count_by}
+use Rattle.std.specs.Prelude.{◌≡◌, ℕ, ◌<◌, ◌≤◌, negsuc, pos, ◌≤ℤ◌, false, List, length, Option, None, IfSome, All}
+use Rattle.std.specs.List.{AllZip, list_any, count_by}
 use Rattle.trex_layers.specs.declared.sizes.TheConstants.{LONGEST_PACKET, SHORTEST_PACKET}
 use Rattle.trex_fields.specs.Bytes.{IsSize}
-use Rattle.trex_stamp.specs.declared.header.TheConstants.{SHORTEST_STAMPED}
+use Rattle.trex_stamp.specs.declared.header.Version.{Version}
 use Rattle.trex_vars.specs.Variable.{Variable}
+use Rattle.trex_vars.specs.Bounds.{IsBetween, least, greatest}
 use Rattle.trex_vars.specs.Check.{fault_of}
 use Rattle.trex_vars.specs.declared.value.VarValue.{VarValue}
 use Rattle.trex_vm.specs.declared.instr.Instr.{Instr}
 use Rattle.trex_vm.specs.declared.instr.Instr.TheVariants.{Write, WriteMask}
 use Rattle.trex_vm.specs.Effect.{operand_of}
 use Rattle.trex_vm.specs.Packet.{trimmed}
-use Rattle.trex_vm.specs.Rules.{least_length, room_of, is_trim, writes_past, misses_header, overwrites_header_kind}
+use Rattle.trex_vm.specs.Rules.{least_length, room_of, no_room_for_stamp, is_trim, writes_past, misses_header, overwrites_header_kind}
 
--- what contracts see of a program: its instructions, its template's length, its least packet length, and whether it stamps
+-- what contracts see of a program: its instructions, its template's length, its least packet length, and the version of its latency header
 pub record ProgramView : Type 0 where
   pub instrs : List Instr
   pub template : ℕ
   pub least : ℕ
-  pub stamps : Bool
+  pub stamp : Option Version
 
--- the program of some instructions over some variables for a template, whose packets are stamped or not
-abbrev pub program_view : List Instr → List Variable → List ℕ → Bool → ProgramView
-program_view instrs vars template stamps =
-    record { instrs = instrs; template = length template; least = least_length vars instrs (length template); stamps = stamps }
+-- the program of some instructions over some variables for a template, whose packets end in a latency header of a version, or in none
+abbrev pub program_view : List Instr → List Variable → List ℕ → Option Version → ProgramView
+program_view instrs vars template stamp =
+    record { instrs = instrs; template = length template; least = least_length vars instrs (length template); stamp = stamp }
 
 -- the bytes of the shortest packet in front of its latency header
 abbrev pub room : ProgramView → ℕ
-room p = room_of p.least p.stamps
+room p = room_of p.least p.stamp
 
 -- the operand's variable is one of so many
 abbrev pub TakesFrom : ℕ → Instr → Type 0
@@ -48,10 +49,14 @@ pub record AreOperandsOf (vars : List Variable) (instrs : List Instr) : Type 0 w
 abbrev pub AreSound : List Variable → Type 0
 AreSound vars = All (λ variable. fault_of variable ≡ None) vars
 
+-- each value is one that its variable can have: it lies between the variable's ends
+abbrev pub AreWithin : List Variable → List VarValue → Type 0
+AreWithin vars values = AllZip (λ variable value. IsBetween (least variable) value (greatest variable)) vars values
+
 -- what holds of every program
 pub record IsProgram (p : ProgramView) : Type 0 where
   pub long : SHORTEST_PACKET ≤ p.least
-  pub stamp : IsTrue p.stamps → SHORTEST_STAMPED ≤ p.least
+  pub stamp : no_room_for_stamp p.least p.stamp ≡ false
   pub cut : p.least ≤ p.template
   pub short : p.template ≤ LONGEST_PACKET
   pub trims : count_by is_trim p.instrs ≤ 1

@@ -3,10 +3,11 @@
 
 ghost use Rattle.std.specs.Prelude.{◌≡◌, ◌^◌, ◌<◌, IfSome};
 ghost use Rattle.trex_vm.specs.Effect.{write_of, fix_of, trim_of, span_of};
-ghost use Rattle.trex_vm.specs.Fix.{field_of, header_of};
+ghost use Rattle.trex_vm.specs.Fix.{field_of, header_of, ip_version};
 
 use crate::fix::{HEADER_SUM, sum_place};
 use crate::instr::{Instr, L4Kind, Operand};
+use trex_headers::{IPV6_LEN, Version as IpVersion};
 
 /// So many bytes of a packet, from a place on. The place is wide enough for the field of any fix.
 #[derive(Clone, Copy)]
@@ -22,8 +23,9 @@ pub(crate) enum Fix {
     Header {
         at: usize,
     },
-    /// The segment behind the IPv4 header of `header` bytes at `ip`, with its pseudo header.
+    /// The segment behind the IP header of `header` bytes at `ip`, with its pseudo header.
     Segment {
+        version: IpVersion,
         ip: usize,
         header: usize,
         kind: L4Kind,
@@ -31,12 +33,22 @@ pub(crate) enum Fix {
 }
 
 impl Fix {
-    /// The place of the IPv4 header that the fix names.
+    /// The place of the IP header that the fix names.
     pub(crate) fn header(self) -> usize
         ensures { result ≡ header_of self }
     {
         match self {
             Fix::Header { at: ip } | Fix::Segment { ip, .. } => ip,
+        }
+    }
+
+    /// The version of that header.
+    pub(crate) fn version(self) -> IpVersion
+        ensures { result ≡ ip_version self }
+    {
+        match self {
+            Fix::Header { .. } => IpVersion::V4,
+            Fix::Segment { version, .. } => version,
         }
     }
 
@@ -47,9 +59,12 @@ impl Fix {
     {
         let at = match self {
             Fix::Header { at } => at as u128 + HEADER_SUM as u128,
-            Fix::Segment { ip, header, kind } => {
-                ip as u128 + header as u128 + sum_place(kind) as u128
-            }
+            Fix::Segment {
+                ip,
+                header,
+                kind,
+                ..
+            } => { ip as u128 + header as u128 + sum_place(kind) as u128 }
         };
         Span { at, size: 2 }
     }
@@ -80,7 +95,18 @@ impl Instr {
     {
         match *self {
             Instr::FixIpv4 { at } => Some(Fix::Header { at }),
-            Instr::FixL4 { ip, header, kind } => Some(Fix::Segment { ip, header, kind }),
+            Instr::FixL4 { ip, header, kind } => Some(Fix::Segment {
+                version: IpVersion::V4,
+                ip,
+                header,
+                kind,
+            }),
+            Instr::FixL6 { ip, kind } => Some(Fix::Segment {
+                version: IpVersion::V6,
+                ip,
+                header: IPV6_LEN,
+                kind,
+            }),
             _ => None,
         }
     }

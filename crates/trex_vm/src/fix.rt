@@ -2,31 +2,21 @@
 
 ghost use Rattle.std.specs.Prelude.{◌≡◌, ◌+◌, ◌*◌, ◌%◌, ◌<◌, ◌≤◌, ◌++◌, IsTrue, length};
 ghost use Rattle.std.specs.List.{slice_range};
+ghost use Rattle.trex_headers.specs.Network.{network_of};
 ghost use Rattle.trex_sum.specs.Checksum.{sum_of};
-ghost use Rattle.trex_vm.specs.Fix.{header_length, fixed_ipv4, fixed_l4, protocol_of, least_segment, sum_place, written_sum, segment_length, segment_fits, segment_at, pseudo_header, with_checksum};
+ghost use Rattle.trex_vm.specs.Fix.{fixed_ipv4, fixed_segment, header_length, least_segment, left_for_segment, protocol_of, pseudo_header, segment_at, segment_fits, segment_length, sum_place, with_checksum, written_sum};
 
 use crate::instr::L4Kind;
 use trex_fields::{read_be, write_be};
-use trex_sum::{fold, sum_words};
-
-/// The offset of the total length in an IPv4 header (RFC 791, section 3.1).
-const TOTAL_LENGTH: usize = 2;
-
-/// The offset of the protocol in an IPv4 header (RFC 791, section 3.1).
-pub(crate) const PROTOCOL: usize = 9;
+use trex_headers::{Version as IpVersion, network_places};
+use trex_layers::{PROTOCOL_TCP, PROTOCOL_UDP, TCP_LEN, UDP_LEN};
+use trex_sum::{ALL_ONES, fold, ones_for_zero, sum_words};
 
 /// The offset of the checksum in an IPv4 header (RFC 791, section 3.1).
 pub(crate) const HEADER_SUM: usize = 10;
 
-/// The offset of the two addresses in an IPv4 header, and of what follows them (RFC 791, section 3.1).
-const ADDRESSES: usize = 12;
-
-const ADDRESSES_END: usize = 20;
-
 /// The offset of the length in a UDP header (RFC 768).
 const UDP_LENGTH: usize = 4;
-
-const ALL_ONES: u16 = 0xffff;
 
 /// The length in bytes of an IPv4 header, by its first byte, whose lower four bits count words of four bytes (RFC 791, section 3.1).
 pub(crate) fn words_to_bytes(first: u8) -> usize
@@ -47,13 +37,13 @@ pub(crate) fn fix_ipv4(packet: &mut [u8], at: usize)
     write_be::<2>(packet, at + HEADER_SUM, u64::from(ALL_ONES - fold(sum)));
 }
 
-/// The protocol number of a kind of segment (RFC 790).
+/// The protocol or next header of a kind of segment (RFC 790; RFC 8200, section 3).
 pub(crate) fn protocol_of(kind: L4Kind) -> u8
     ensures { result ≡ protocol_of kind }
 {
     match kind {
-        L4Kind::Tcp => 6,
-        L4Kind::Udp => 17,
+        L4Kind::Tcp => PROTOCOL_TCP,
+        L4Kind::Udp => PROTOCOL_UDP,
     }
 }
 
@@ -62,8 +52,8 @@ pub(crate) fn least_segment(kind: L4Kind) -> usize
     ensures { result ≡ least_segment kind }
 {
     match kind {
-        L4Kind::Tcp => 20,
-        L4Kind::Udp => 8,
+        L4Kind::Tcp => TCP_LEN,
+        L4Kind::Udp => UDP_LEN,
     }
 }
 
@@ -78,53 +68,80 @@ pub(crate) fn sum_place(kind: L4Kind) -> usize
     }
 }
 
-/// The checksum as it is written: a UDP checksum of zero stands for none, so all ones are written in its place (RFC 768).
+/// The checksum as it is written: a UDP checksum of zero stands for none, so all ones are written in its place (RFC 768; RFC 8200, section 8.1).
 fn written_sum(kind: L4Kind, sum: u16) -> u16
     ensures { result ≡ written_sum kind sum }
 {
     match kind {
-        L4Kind::Udp if sum == 0 => ALL_ONES,
-        _ => sum,
+        L4Kind::Tcp => sum,
+        L4Kind::Udp => ones_for_zero(sum),
+    }
+}
+
+/// The bytes that the length in an IP header leaves for the segment: IPv4's counts the header, IPv6's doesn't.
+fn left_for_segment(version: IpVersion, header: usize, len: usize) -> usize
+    ensures { result ≡ left_for_segment version header len }
+{
+    match version {
+        IpVersion::V4 => len.saturating_sub(header),
+        IpVersion::V6 => len,
     }
 }
 
 /// The segment's length, as its headers say.
-fn length_of_segment(packet: &[u8], kind: L4Kind, ip: usize, header: usize) -> usize
-    requires long { 20 ≤ header }
+fn length_of_segment(
+    packet: &[u8],
+    version: IpVersion,
+    kind: L4Kind,
+    ip: usize,
+    header: usize,
+) -> usize
+    requires long { (network_of version).end ≤ header }
     requires room { ip + header + least_segment kind ≤ length packet.now }
-    ensures value { result ≡ segment_length kind ip header packet.now }
+    ensures value { result ≡ segment_length version kind ip header packet.now }
     ensures small { result < 65536 }
 {
     match kind {
-        L4Kind::Tcp => (read_be::<2>(packet, ip + TOTAL_LENGTH) as usize).saturating_sub(header),
+        L4Kind::Tcp => {
+            let len = read_be::<2>(packet, ip + network_places(version).length);
+            left_for_segment(version, header, len as usize)
+        }
         L4Kind::Udp => read_be::<2>(packet, ip + header + UDP_LENGTH) as usize,
     }
 }
 
-/// The sum of the pseudo header of the IPv4 header at `ip`, and of the segment of `len` bytes from `at` on.
-fn segment_sum(packet: &[u8], ip: usize, at: usize, len: usize) -> u64
-    requires header { ip + 20 ≤ at }
+/// The sum of the pseudo header of the IP header at `ip`, and of the segment of `len` bytes from `at` on.
+fn segment_sum(packet: &[u8], version: IpVersion, ip: usize, at: usize, len: usize) -> u64
+    requires header { ip + (network_of version).end ≤ at }
     requires room { at + len ≤ length packet.now }
     requires short { len < 65536 }
-    ensures { result ≡ sum_of (pseudo_header ip len packet.now ++ slice_range packet.now at (at + len)) }
+    ensures { result ≡ sum_of (pseudo_header version ip len packet.now ++ slice_range packet.now at (at + len)) }
 {
-    let addresses = sum_words(&packet[ip + ADDRESSES..ip + ADDRESSES_END]);
-    let protocol = u64::from(packet[ip + PROTOCOL]);
+    let net = network_places(version);
+    let addresses = sum_words(&packet[ip + net.addresses..ip + net.end]);
+    let protocol = u64::from(packet[ip + net.protocol]);
     addresses + protocol + len as u64 + sum_words(&packet[at..at + len])
 }
 
 /// Writes the checksum of a segment that fits.
-fn write_segment_sum(packet: &mut [u8], kind: L4Kind, ip: usize, header: usize, len: usize)
-    requires long { 20 ≤ header }
-    requires fits { IsTrue (segment_fits kind ip header packet.old) }
-    requires len { len ≡ segment_length kind ip header packet.old }
+fn write_segment_sum(
+    packet: &mut [u8],
+    version: IpVersion,
+    kind: L4Kind,
+    ip: usize,
+    header: usize,
+    len: usize,
+)
+    requires long { (network_of version).end ≤ header }
+    requires fits { IsTrue (segment_fits version kind ip header packet.old) }
+    requires len { len ≡ segment_length version kind ip header packet.old }
     requires short { len < 65536 }
-    ensures { packet.new ≡ with_checksum (written_sum kind) (segment_at kind ip header) (ip + header + sum_place kind) packet.old }
+    ensures { packet.new ≡ with_checksum (written_sum kind) (segment_at version kind ip header) (ip + header + sum_place kind) packet.old }
 {
     let at = ip + header;
     let field = at + sum_place(kind);
     write_be::<2>(packet, field, 0);
-    let sum = segment_sum(packet, ip, at, len);
+    let sum = segment_sum(packet, version, ip, at, len);
     write_be::<2>(
         packet,
         field,
@@ -132,14 +149,20 @@ fn write_segment_sum(packet: &mut [u8], kind: L4Kind, ip: usize, header: usize, 
     );
 }
 
-/// Writes the checksum of the segment behind the IPv4 header of `header` bytes at `ip`. A segment whose length doesn't fit is left as it is.
-pub(crate) fn fix_l4(packet: &mut [u8], kind: L4Kind, ip: usize, header: usize)
-    requires long { 20 ≤ header }
+/// Writes the checksum of the segment behind the IP header of `header` bytes at `ip`. A segment whose length doesn't fit is left as it is.
+pub(crate) fn fix_segment(
+    packet: &mut [u8],
+    version: IpVersion,
+    kind: L4Kind,
+    ip: usize,
+    header: usize,
+)
+    requires long { (network_of version).end ≤ header }
     requires room { ip + header + least_segment kind ≤ length packet.old }
-    ensures { packet.new ≡ fixed_l4 kind ip header packet.old }
+    ensures { packet.new ≡ fixed_segment version kind ip header packet.old }
 {
-    let len = length_of_segment(packet, kind, ip, header);
+    let len = length_of_segment(packet, version, kind, ip, header);
     if len >= least_segment(kind) && len <= packet.len() - ip - header {
-        write_segment_sum(packet, kind, ip, header, len);
+        write_segment_sum(packet, version, kind, ip, header, len);
     }
 }

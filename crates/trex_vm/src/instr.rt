@@ -21,7 +21,7 @@ pub struct Operand {
     pub size: u8,
 }
 
-/// Which kind of segment stands behind an IPv4 header.
+/// Which kind of segment stands behind an IP header.
 #[derive(Clone, Copy, PartialEq, Eq, Debug, Drop)]
 pub enum L4Kind {
     /// A TCP segment (RFC 793).
@@ -62,6 +62,11 @@ pub enum Instr {
     FixL4 {
         ip: usize,
         header: usize,
+        kind: L4Kind,
+    },
+    /// Writes the checksum of the segment behind the IPv6 header at `ip`, with IPv6's pseudo header (RFC 8200, section 8.1), else as over IPv4.
+    FixL6 {
+        ip: usize,
         kind: L4Kind,
     },
     /// Cuts the packet to the operand's number of bytes, before the latency header and all other instructions.

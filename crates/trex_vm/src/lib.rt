@@ -14,6 +14,7 @@ pub use instr::{Instr, L4Kind, Operand, Part};
 pub use laws::programs_fit;
 pub use program::Program;
 pub use rules::{
-    is_trim, least_length, misses_header, overwrites_header_kind, room_of, trim_wrong, writes_past,
+    is_trim, least_length, misses_header, no_room_for_stamp, overwrites_header_kind, room_of,
+    trim_wrong, writes_past,
 };
 pub use run::run_plain;

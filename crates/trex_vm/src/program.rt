@@ -6,10 +6,10 @@ ghost use Rattle.trex_vm.specs.Rules.{accepts};
 ghost use Rattle.trex_vm.specs.Program.{AreOperandsOf, AreSound, IsProgram, program_view};
 
 use crate::instr::Instr;
-use crate::laws::programs_fit;
 use crate::rules::{accepts, least_length};
 use std::marker::Model;
 use trex_layers::{LONGEST_PACKET, SHORTEST_PACKET};
+use trex_stamp::Version;
 use trex_vars::VarSpec;
 
 /// The instructions of a stream, checked once against its variables and its template.
@@ -18,7 +18,7 @@ pub struct Program {
     instrs: Vec<Instr>,
     template: usize,
     least: usize,
-    stamps: bool,
+    stamp: Option<Version>,
 }
 
 impl Model for Program {
@@ -26,35 +26,35 @@ impl Model for Program {
 
     ghost Value = { ProgramView };
 
-    ghost view = { λ p. record { instrs = p.instrs.items; template = p.template; least = p.least; stamps = p.stamps } };
+    ghost view = { λ p. record { instrs = p.instrs.items; template = p.template; least = p.least; stamp = p.stamp } };
 
-    ghost invariant = { λ p. IsProgram (record { instrs = p.instrs.items; template = p.template; least = p.least; stamps = p.stamps }) };
+    ghost invariant = { λ p. IsProgram (record { instrs = p.instrs.items; template = p.template; least = p.least; stamp = p.stamp }) };
 }
 
 impl Program {
-    /// The program of some instructions over a stream's variables for a template, whose packets end in a latency header or don't.
+    /// The program of some instructions over a stream's variables for a template, whose packets end in a latency header of the version, or in none.
     ///
     /// None exactly where an instruction breaks a rule: a second trim; a trim whose least number is below 14 or whose greatest is above the
-    /// template's length; a least packet length below 30 of a stamped stream; a write that ends after the room, which is the least packet
+    /// template's length; a least packet length below 14 and the latency header's length; a write that ends after the room, which is the least packet
     /// length less the latency header; a fix that doesn't find its header within the room; or an instruction that writes byte 0 or byte 9
     /// of a header that a fix names. Each operand's variable is one of `vars`; a write has 1, 2, 4 or 8 bytes; a shift goes by at most 63.
     pub fn new(
         instrs: Vec<Instr>,
         vars: &[VarSpec],
         template: &[u8],
-        stamped: bool,
+        stamp: Option<Version>,
     ) -> Option<Program>
         requires long { SHORTEST_PACKET ≤ length template.now }
         requires short { length template.now ≤ LONGEST_PACKET }
         requires operands { AreOperandsOf (map variable_of vars.now) instrs.items }
         requires sound { AreSound (map variable_of vars.now) }
-        ensures accepts { is_some result ≡ accepts (map variable_of vars.now) template.now stamped instrs.items }
-        ensures plan { IfSome result (λ p. p ≡ program_view instrs.items (map variable_of vars.now) template.now stamped) }
+        ensures accepts { is_some result ≡ accepts (map variable_of vars.now) template.now stamp instrs.items }
+        ensures plan { IfSome result (λ p. p ≡ program_view instrs.items (map variable_of vars.now) template.now stamp) }
     {
-        if !accepts(vars, template, stamped, &instrs) {
+        if !accepts(vars, template, stamp, &instrs) {
             return None;
         }
-        Some(Program::of_accepted(instrs, vars, template, stamped))
+        Some(Program::of_accepted(instrs, vars, template, stamp))
     }
 
     /// The program of instructions that break none of the rules of `new`, for a caller that knows it: no rule is tested again.
@@ -62,23 +62,21 @@ impl Program {
         instrs: Vec<Instr>,
         vars: &[VarSpec],
         template: &[u8],
-        stamped: bool,
+        stamp: Option<Version>,
     ) -> Program
         requires long { SHORTEST_PACKET ≤ length template.now }
         requires short { length template.now ≤ LONGEST_PACKET }
         requires operands { AreOperandsOf (map variable_of vars.now) instrs.items }
         requires sound { AreSound (map variable_of vars.now) }
-        requires accepted { accepts (map variable_of vars.now) template.now stamped instrs.items ≡ true }
-        ensures { result ≡ program_view instrs.items (map variable_of vars.now) template.now stamped }
+        requires accepted { accepts (map variable_of vars.now) template.now stamp instrs.items ≡ true }
+        ensures { result ≡ program_view instrs.items (map variable_of vars.now) template.now stamp }
     {
-        // the law bounds the least length by the template's
-        programs_fit();
         let least = least_length(vars, &instrs, template.len());
         Program {
             instrs,
             template: template.len(),
             least,
-            stamps: stamped,
+            stamp,
         }
     }
 

@@ -1,24 +1,26 @@
 // Packets, made of a template.
 
-ghost use Rattle.std.specs.Prelude.{◌≡◌, ◌+◌, ◌-◌, ◌≤◌, List, ◌∷◌, ◌++◌, false, IsSome, is_some, All, length, take, drop};
+ghost use Rattle.std.specs.Prelude.{◌≡◌, ◌+◌, ◌≤◌, List, ◌∷◌, ◌++◌, false, true, All, length, take, drop};
 ghost use Rattle.std.specs.List.{list_any};
-ghost use Rattle.trex_fields.specs.Bytes.{put};
-ghost use Rattle.trex_stamp.specs.Stamp.{stamp_bytes};
-ghost use Rattle.trex_vm.specs.Packet.{after, after_all, trimmed, stamped, packet};
+ghost use Rattle.std.specs.Option.{ForSome};
+ghost use Rattle.trex_stamp.specs.Stamp.{IsStamp};
+ghost use Rattle.trex_vm.specs.Fix.{fixed};
+ghost use Rattle.trex_vm.specs.Packet.{after, after_all, trimmed, version_of, stamped, packet};
 ghost use Rattle.trex_vm.specs.declared.instr.Instr.{Instr as AnInstr};
 ghost use Rattle.trex_vm.specs.Cover.{StaysFixed, HeaderVerifies};
-ghost use Rattle.trex_vm.specs.Rules.{writes_past, misses_header, overwrites_header_kind};
+ghost use Rattle.trex_vm.specs.Rules.{header_size, writes_past, finds_header, misses_header, overwrites_header_kind};
 ghost use Rattle.trex_vm.specs.Program.{TakesFrom, IsFormed, IsTemplateOf, AreValuesOf};
 
-use crate::fix::{fix_ipv4, fix_l4};
+use crate::effect::Fix;
+use crate::fix::{fix_ipv4, fix_segment};
 use crate::instr::Instr;
 use crate::program::Program;
 use crate::write::{number_in, shift_by, sum_in, write_masked, write_number};
-use trex_stamp::{STAMP_SIZE, Stamp};
+use trex_stamp::{Stamp, write_stamp};
 use trex_vars::VarValue;
 
 /// Makes a packet at the front of `out`, and answers its length in bytes: the template, cut to the trim's number, with the latency header in
-/// place of its last 16 bytes where there is one, after the program's other instructions in order. What lies in `out` past the template's
+/// place of its last bytes where there is one, after the program's other instructions in order. What lies in `out` past the template's
 /// length stays.
 ///
 /// A header that the program fixed verifies (RFC 1071), if no later instruction writes a byte that its checksum covers; for a UDP or TCP segment,
@@ -32,7 +34,8 @@ pub fn run_plain(
 ) -> usize
     requires template { IsTemplateOf program.now template.now }
     requires values { AreValuesOf program.now values.now }
-    requires stamp { is_some stamp ≡ program.now.stamps }
+    requires stamp { version_of stamp ≡ program.now.stamp }
+    requires fits { ForSome stamp IsStamp }
     requires room { length template.now ≤ length out.old }
     ensures long { result ≤ length template.now }
     ensures packet { take result out.new ≡ packet program.now.instrs values.now stamp template.now }
@@ -61,6 +64,22 @@ fn packet_length(instrs: &[Instr], values: &[VarValue], whole: usize) -> usize
     whole
 }
 
+/// Writes the checksum of a fix.
+fn apply_fix(fix: Fix, bytes: &mut [u8])
+    requires { finds_header bytes.old (length bytes.old) fix ≡ true }
+    ensures { bytes.new ≡ fixed fix bytes.old }
+{
+    match fix {
+        Fix::Header { at } => fix_ipv4(bytes, at),
+        Fix::Segment {
+            version,
+            ip,
+            header,
+            kind,
+        } => fix_segment(bytes, version, kind, ip, header),
+    }
+}
+
 /// Applies one instruction.
 fn apply(instr: &Instr, values: &[VarValue], bytes: &mut [u8])
     requires operand { TakesFrom (length values.now) instr.now }
@@ -85,9 +104,11 @@ fn apply(instr: &Instr, values: &[VarValue], bytes: &mut [u8])
             let number = shift_by(sum_in(values, from, add), shift);
             write_masked(bytes, big, cast, at, mask, number);
         }
-        Instr::FixIpv4 { at } => fix_ipv4(bytes, at),
-        Instr::FixL4 { ip, header, kind } => fix_l4(bytes, kind, ip, header),
-        Instr::Trim { .. } => {}
+        _ => {
+            if let Some(fix) = instr.fix_of() {
+                apply_fix(fix, bytes);
+            }
+        }
     }
 }
 
@@ -105,24 +126,16 @@ fn apply_all(instrs: &[Instr], values: &[VarValue], bytes: &mut [u8])
     }
 }
 
-/// Writes the latency header over the last bytes.
-fn stamp_end(bytes: &mut [u8], stamp: &Stamp)
-    requires { STAMP_SIZE ≤ length bytes.old }
-    ensures { bytes.new ≡ put (length bytes.old - STAMP_SIZE) (stamp_bytes stamp.now) bytes.old }
-{
-    let at = bytes.len() - STAMP_SIZE;
-    bytes[at..at + STAMP_SIZE].copy_from_slice(&trex_stamp::stamp(stamp));
-}
-
 /// Writes the packet as it is before its instructions.
 fn write_front(template: &[u8], stamp: Option<Stamp>, bytes: &mut [u8])
     requires long { length bytes.old ≡ length template.now }
-    requires stamp { IsSome stamp → STAMP_SIZE ≤ length template.now }
+    requires stamp { header_size (version_of stamp) ≤ length template.now }
+    requires fits { ForSome stamp IsStamp }
     ensures { bytes.new ≡ stamped stamp template.now }
 {
     bytes.copy_from_slice(template);
     if let Some(stamp) = stamp {
-        stamp_end(bytes, &stamp);
+        write_stamp(&stamp, bytes);
     }
 }
 
@@ -135,7 +148,8 @@ fn make_packet(
     bytes: &mut [u8],
 )
     requires long { length bytes.old ≡ length template.now }
-    requires stamp { IsSome stamp → STAMP_SIZE ≤ length template.now }
+    requires stamp { header_size (version_of stamp) ≤ length template.now }
+    requires fits { ForSome stamp IsStamp }
     requires operands { All (TakesFrom (length values.now)) instrs.now }
     requires formed { All IsFormed instrs.now }
     requires places { list_any (writes_past (length template.now)) instrs.now ≡ false }

@@ -33,7 +33,7 @@ pub(crate) struct Lanes {
     pub(crate) copied: u64,
 }
 
-// How many copies of a record arrive, by its word.
+/// How many copies of a record arrive, by its word.
 fn copies_of(ask: WireSpec, word: u64) -> u8
     ensures { result ≡ copies_by ask word }
 {
@@ -46,7 +46,7 @@ fn copies_of(ask: WireSpec, word: u64) -> u8
     }
 }
 
-// When a copy of a record of this time arrives, by the copy's word.
+/// When a copy of a record of this time arrives, by the copy's word.
 fn arrives(ask: WireSpec, time: u64, word: u64) -> u64
     requires ask { IsAsk ask }
     requires early { time < 2 ^ 63 }
@@ -56,7 +56,7 @@ fn arrives(ask: WireSpec, time: u64, word: u64) -> u64
 }
 
 impl Lanes {
-    // Puts the copies of a record where they belong. After want of memory nothing is promised.
+    /// Puts the copies of a record where they belong. Out of memory, nothing is promised.
     fn put(&mut self, ask: WireSpec, time: u64, place: u64, words: Words) -> Result<(), Memory>
         requires ask { IsAsk ask }
         requires early { time < 2 ^ 63 }

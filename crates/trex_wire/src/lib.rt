@@ -1,4 +1,4 @@
-// A simulated wire, which loses, copies and delays the records of a capture by a seed, and the counts of what arrives.
+//! A simulated wire, which loses, copies and delays the records of a capture by a seed, and the counts of what arrives.
 #![tactic(auto)]
 
 mod behind;

@@ -46,7 +46,7 @@ impl<'a> Feed for Lane<'a> {
     }
 }
 
-// Counts a record as it arrives.
+/// Counts a record as it arrives.
 fn count(stats: &mut Stats, store: &Store, due: Due) -> Result<(), Memory>
     requires { stats.old.records < 200000000 }
     ensures stands { OnOk result ((rs : List Seen) → StandsFor stats.old rs
@@ -59,7 +59,7 @@ fn count(stats: &mut Stats, store: &Store, due: Due) -> Result<(), Memory>
     }
 }
 
-// Counts the record that comes next, and takes it from its lane.
+/// Counts the record that comes next, and takes it from its lane.
 fn pass(
     stats: &mut Stats,
     store: &Store,

@@ -56,7 +56,7 @@ impl Store {
         }
     }
 
-    /// Puts a record behind those that are there. After want of memory they are as before.
+    /// Puts a record behind those that are there. Out of memory, they are as before.
     pub(crate) fn push(&mut self, time: u64, bytes: &[u8], original: u32) -> Result<(), Memory>
         requires { length bytes.now ≤ 262144 }
         ensures pushed { OnOk result (self.new ≡ self.old ++ record { time = time; bytes = bytes.now; original = original } ∷ []) }

@@ -31,7 +31,7 @@ const SOME: &str =
     FlowLine { flow: 1, received: 270, duplicates: 12, lost: 75, reordered: 240, early: 0, least: 194015, greatest: 2847065, sum: 413112357 } \
     FlowLine { flow: 2, received: 270, duplicates: 12, lost: 75, reordered: 243, early: 0, least: 45549, greatest: 2923479, sum: 412187950 }";
 
-// What is asked (seed, loss, copy, delay), and what is measured.
+/// What is asked (seed, loss, copy, delay), and what is measured.
 type Row<'a> = (u64, u32, u32, u64, &'a str);
 
 const FIVE: [Row<'static>; 4] = [
@@ -41,7 +41,7 @@ const FIVE: [Row<'static>; 4] = [
     (u64::MAX, 0, 1_000_000, LONGEST, LATE),
 ];
 
-// Puts a packet of 16 bytes, its latency header: due at the last millisecond, and cut by a byte where it came at a seventh microsecond.
+/// Puts a packet of 16 bytes, its latency header: due at the last millisecond, and cut by a byte where it came at a seventh microsecond.
 fn put(capture: &mut Vec<u8>, micros: u32, flow: u8, number: u16) -> Result<(), AllocError> {
     let came = u64::from(micros) * 1_000;
     let mut head = record_header(came, 16);
@@ -52,7 +52,7 @@ fn put(capture: &mut Vec<u8>, micros: u32, flow: u8, number: u16) -> Result<(), 
     capture.extend_from_slice(&(came - came % 1_000_000).to_be_bytes())
 }
 
-// Each row is what is measured of a capture behind a wire.
+/// Each row is what is measured of a capture behind a wire.
 fn look(rt: &impl Abort, alloc: Global, capture: &Vec<u8>, rows: &[Row<'_>]) -> Result<(), Fail> {
     for &(seed, loss, copy, delay, wanted) in rows {
         assert!(rt; loss <= 1_000_000 && copy <= 1_000_000 && delay <= LONGEST);

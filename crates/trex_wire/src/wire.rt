@@ -1,3 +1,5 @@
+// A wire: `Wire::new`, `Wire::send` for each record in order, and then `Wire::measure`.
+
 ghost use Rattle.std.specs.Prelude.{◌≡◌, ◌+◌, ◌^◌, ◌<◌, ◌≤◌, [], ◌∷◌, ◌++◌, length, IfOk, OnOk, OnErr};
 ghost use Rattle.trex_stats.specs.Counts.{StandsFor};
 ghost use Rattle.trex_wire.specs.Wired.{IsAsk, wire_counts, wired};
@@ -48,7 +50,7 @@ impl Wire {
         }
     }
 
-    /// Sends one more record, of this time in ns, these captured bytes and this original length. After want of memory the wire is as
+    /// Sends one more record, of this time in ns, these captured bytes and this original length. Out of memory, the wire is as
     /// before.
     pub fn send(&mut self, time: u64, bytes: &[u8], original: u32) -> Result<(), Memory>
         requires few { length self.old.list < 100000000 }

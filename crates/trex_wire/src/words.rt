@@ -24,7 +24,7 @@ pub(crate) fn generator_of(seed: u64) -> Lcg128Xsl64
     Lcg128Xsl64::new(u128::from(seed), 0)
 }
 
-// The next word.
+/// The next word.
 fn draw(generator: &mut Lcg128Xsl64) -> u64
     ensures word { (seed n : ℕ) → generator.old ≡ stands_at seed 0 n → result ≡ word_at seed 0 n }
     ensures stands { (seed n : ℕ) → generator.old ≡ stands_at seed 0 n → generator.new ≡ stands_at seed 0 (n + 1) }

@@ -7,10 +7,11 @@ use Rattle.std.specs.Str.Parse.{digits_value}
 use Rattle.trex_words.specs.First.{first_of}
 use Rattle.trex_words.specs.declared.asked.RunAsk.{RunAsk}
 use Rattle.trex_words.specs.declared.asked.SampleAsk.{SampleAsk}
+use Rattle.trex_words.specs.declared.asked.WireAsk.{WireAsk}
 use Rattle.trex_words.specs.declared.asked.Asked.{Asked}
-use Rattle.trex_words.specs.declared.asked.Asked.TheVariants.{Run as ARun, Check as ACheck, Analyze as AnAnalysis, Sample as ASample, Help as SomeHelp}
+use Rattle.trex_words.specs.declared.asked.Asked.TheVariants.{Run as ARun, Check as ACheck, Analyze as AnAnalysis, Sample as ASample, Wire as AWire, Help as SomeHelp}
 use Rattle.trex_words.specs.declared.command.Command.{Command}
-use Rattle.trex_words.specs.declared.command.Command.TheVariants.{Run, Check, Analyze, Sample, Help}
+use Rattle.trex_words.specs.declared.command.Command.TheVariants.{Run, Check, Analyze, Sample, Wire, Help}
 use Rattle.trex_words.specs.declared.options.Limits.{Limits}
 use Rattle.trex_words.specs.declared.asked.OptionName.TheVariants.{Seed}
 use Rattle.trex_words.specs.declared.asked.Usage.{Usage}
@@ -27,7 +28,8 @@ command_of word =
     else (if bytes_eq word (codes "check") then Some Check
     else (if bytes_eq word (codes "analyze") then Some Analyze
     else (if bytes_eq word (codes "sample") then Some Sample
-    else (if bytes_eq word (codes "help") then Some Help else None))))
+    else (if bytes_eq word (codes "wire") then Some Wire
+    else (if bytes_eq word (codes "help") then Some Help else None)))))
 
 -- the options of a command: the name of each, its least and its greatest value, and its value where it isn't given
 abbrev pub Options : Type 0
@@ -51,11 +53,21 @@ run_options = (codes "--base", limits 0 3000000000 0) ∷ schedule_options
 abbrev pub sample_options : Options
 sample_options = (codes "--seed", limits 0 (2 ^ 64 - 1) 0) ∷ (codes "--streams", limits 1 256 16) ∷ schedule_options
 
+-- the seed must be given; losses and copies are in millionths
+abbrev pub wire_options : Options
+wire_options =
+    (codes "--seed", limits 0 (2 ^ 64 - 1) 0)
+    ∷ (codes "--loss", limits 0 1000000 0)
+    ∷ (codes "--copy", limits 0 1000000 0)
+    ∷ (codes "--delay", limits 0 (10 ^ 18) 0)
+    ∷ []
+
 abbrev pub options_of : Command → Options
 options_of Run = run_options
 options_of Check = []
 options_of Analyze = []
 options_of Sample = sample_options
+options_of Wire = wire_options
 options_of Help = []
 
 -- the limits of an option, if the command has it
@@ -115,12 +127,17 @@ default_of (Some l) = l.default
 unfoldable pub value_of : Options → List (List ℕ) → List ℕ → ℕ
 value_of options words name = number_at words (value_place words (length words / 2) name) (default_of (limits_of options name))
 
+-- the seed, where it isn't given
+abbrev pub missing_seed : List (List ℕ) → Option Usage
+missing_seed words = if is_some (value_place words (length words / 2) (codes "--seed")) then None else Some (Missing Seed)
+
 -- an option that must be given and isn't
 abbrev pub missing_option : Command → List (List ℕ) → Option Usage
 missing_option Run words = None
 missing_option Check words = None
 missing_option Analyze words = None
-missing_option Sample words = if is_some (value_place words (length words / 2) (codes "--seed")) then None else Some (Missing Seed)
+missing_option Sample words = missing_seed words
+missing_option Wire words = missing_seed words
 missing_option Help words = None
 
 -- what is wrong with the words of a command: the first fault from the left, and after the last word an option that is missing
@@ -147,12 +164,21 @@ sample_ask words = record {
   run = run_of sample_options words 0;
 }
 
+abbrev pub wire_ask : List (List ℕ) → WireAsk
+wire_ask words = record {
+  seed = value_of wire_options words (codes "--seed");
+  loss = value_of wire_options words (codes "--loss");
+  copy = value_of wire_options words (codes "--copy");
+  delay = value_of wire_options words (codes "--delay");
+}
+
 -- what a command asks for
 abbrev pub request : Command → List (List ℕ) → Asked
 request Run words = ARun (run_ask words)
 request Check words = ACheck
 request Analyze words = AnAnalysis
 request Sample words = ASample (sample_ask words)
+request Wire words = AWire (wire_ask words)
 request Help words = SomeHelp
 
 -- the request, if nothing is wrong with the words
@@ -182,10 +208,17 @@ pub record IsSampleAsk (ask : SampleAsk) : Type 0 where
   pub streams : (1 ≤ ask.streams) × (ask.streams ≤ 256)
   pub run : IsRunAsk ask.run
 
+-- the ranges of a wire's options
+pub record IsWireAsk (ask : WireAsk) : Type 0 where
+  pub loss : ask.loss ≤ 1000000
+  pub copy : ask.copy ≤ 1000000
+  pub delay : ask.delay ≤ 10 ^ 18
+
 -- the ranges of a request
 abbrev pub IsAsked : Asked → Type 0
 IsAsked (ARun ask) = IsRunAsk ask
 IsAsked ACheck = Unit {0}
 IsAsked AnAnalysis = Unit {0}
 IsAsked (ASample ask) = IsSampleAsk ask
+IsAsked (AWire ask) = IsWireAsk ask
 IsAsked SomeHelp = Unit {0}

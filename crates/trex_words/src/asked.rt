@@ -1,3 +1,5 @@
+// What the command words may ask for, and what may be wrong with them.
+
 /// A request.
 #[derive(Clone, Copy, Debug, PartialEq, Eq)]
 pub enum Asked {
@@ -9,6 +11,8 @@ pub enum Asked {
     Analyze,
     /// Sum up the capture of a sample profile.
     Sample(SampleAsk),
+    /// Measure what a simulated wire gives of a capture.
+    Wire(WireAsk),
     /// Tell the commands and their options.
     Help,
 }
@@ -37,6 +41,19 @@ pub struct SampleAsk {
     pub run: RunAsk,
 }
 
+/// The options of a simulated wire.
+#[derive(Clone, Copy, Debug, PartialEq, Eq)]
+pub struct WireAsk {
+    /// The seed of the words by which the wire loses, copies and delays.
+    pub seed: u64,
+    /// How many of a million records are lost.
+    pub loss: u32,
+    /// How many of a million records that aren't lost arrive twice.
+    pub copy: u32,
+    /// The longest delay of a copy, in nanoseconds.
+    pub delay: u64,
+}
+
 /// An option, by its name.
 #[derive(Clone, Copy, Debug, PartialEq, Eq)]
 pub enum OptionName {
@@ -46,6 +63,9 @@ pub enum OptionName {
     Base,
     Seed,
     Streams,
+    Loss,
+    Copy,
+    Delay,
 }
 
 /// Words without a meaning: the first fault from the left. Places count from 0, the command included.

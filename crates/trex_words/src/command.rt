@@ -1,17 +1,20 @@
+// The commands, by the first word.
+
 ghost use Rattle.std.specs.Prelude.{◌≡◌};
 ghost use Rattle.trex_words.specs.Asked.{command_of};
 
-// A command, the first word.
+/// A command, the first word.
 #[derive(Clone, Copy, Debug, PartialEq, Eq)]
 pub enum Command {
     Run,
     Check,
     Analyze,
     Sample,
+    Wire,
     Help,
 }
 
-// The command of a word, if it is one.
+/// The command of a word, if it is one.
 pub fn command_of(word: &str) -> Option<Command>
     ensures { result ≡ command_of word.now }
 {
@@ -23,6 +26,8 @@ pub fn command_of(word: &str) -> Option<Command>
         Some(Command::Analyze)
     } else if word == "sample" {
         Some(Command::Sample)
+    } else if word == "wire" {
+        Some(Command::Wire)
     } else if word == "help" {
         Some(Command::Help)
     } else {

@@ -1,4 +1,4 @@
-// What the command words ask for.
+//! What the command words ask for.
 #![tactic(auto)]
 
 mod asked;
@@ -7,7 +7,7 @@ mod help;
 mod options;
 mod read;
 
-pub use asked::{Asked, OptionName, RunAsk, SampleAsk, Usage};
+pub use asked::{Asked, OptionName, RunAsk, SampleAsk, Usage, WireAsk};
 pub use help::help_text;
 pub use read::read_words;
 

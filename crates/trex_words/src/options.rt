@@ -1,9 +1,11 @@
+// The options of each command, with their limits.
+
 ghost use Rattle.std.specs.Prelude.{◌≡◌};
-ghost use Rattle.trex_words.specs.Asked.{limits_of, options_of, schedule_options, run_options, sample_options};
+ghost use Rattle.trex_words.specs.Asked.{limits_of, options_of, schedule_options, run_options, sample_options, wire_options};
 
 use crate::command::Command;
 
-// The least and the greatest value of an option, and its value where it isn't given.
+/// The least and the greatest value of an option, and its value where it isn't given.
 #[derive(Clone, Copy, Debug, PartialEq, Eq)]
 pub struct Limits {
     pub least: u64,
@@ -47,7 +49,20 @@ pub const STREAMS: Limits = Limits {
     default: 16,
 };
 
-// The limits of an option of a run or of a sample.
+/// The limits of a share in millionths, such as that of lost records.
+pub const MILLIONTHS: Limits = Limits {
+    least: 0,
+    greatest: 1_000_000,
+    default: 0,
+};
+
+pub const DELAY: Limits = Limits {
+    least: 0,
+    greatest: 1_000_000_000_000_000_000,
+    default: 0,
+};
+
+/// The limits of an option of a run or of a sample.
 fn schedule_limits(name: &str) -> Option<Limits>
     ensures { result ≡ limits_of schedule_options name.now }
 {
@@ -62,7 +77,7 @@ fn schedule_limits(name: &str) -> Option<Limits>
     }
 }
 
-// The limits of an option of a run.
+/// The limits of an option of a run.
 fn run_limits(name: &str) -> Option<Limits>
     ensures { result ≡ limits_of run_options name.now }
 {
@@ -73,7 +88,7 @@ fn run_limits(name: &str) -> Option<Limits>
     }
 }
 
-// The limits of an option of a sample.
+/// The limits of an option of a sample.
 fn sample_limits(name: &str) -> Option<Limits>
     ensures { result ≡ limits_of sample_options name.now }
 {
@@ -86,13 +101,29 @@ fn sample_limits(name: &str) -> Option<Limits>
     }
 }
 
-// The limits of an option of a command.
+/// The limits of an option of a wire.
+fn wire_limits(name: &str) -> Option<Limits>
+    ensures { result ≡ limits_of wire_options name.now }
+{
+    if name == "--seed" {
+        Some(SEED)
+    } else if name == "--loss" || name == "--copy" {
+        Some(MILLIONTHS)
+    } else if name == "--delay" {
+        Some(DELAY)
+    } else {
+        None
+    }
+}
+
+/// The limits of an option of a command.
 pub fn limits_of(command: Command, name: &str) -> Option<Limits>
     ensures { result ≡ limits_of (options_of command) name.now }
 {
     match command {
         Command::Run => run_limits(name),
         Command::Sample => sample_limits(name),
+        Command::Wire => wire_limits(name),
         Command::Check | Command::Analyze | Command::Help => None,
     }
 }

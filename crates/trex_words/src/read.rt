@@ -1,12 +1,16 @@
+// The reading of the command words: first what is wrong with them, from the left, and then what they ask for.
+
 ghost use Rattle.std.specs.Prelude.{◌≡◌, ◌+◌, ◌*◌, ◌/◌, ◌^◌, ◌<◌, ◌≤◌, true, None, Some, length, IfOk};
 ghost use Rattle.std.specs.Str.Parse.{digits_value};
-ghost use Rattle.trex_words.specs.Asked.{texts, word, value_place, is_number, is_within, value_fault, pair_fault, fault_of, missing_option, command_fault, limits_of, options_of, run_options, sample_options, value_of, run_of, run_ask, sample_ask, request, asked, IsRunAsk, IsSampleAsk, IsAsked};
+ghost use Rattle.trex_words.specs.Asked.{texts, word, value_place, is_number, is_within, value_fault, pair_fault, fault_of, missing_option, command_fault, limits_of, options_of, run_options, sample_options, wire_options, value_of, run_of, run_ask, sample_ask, wire_ask, request, asked, IsRunAsk, IsSampleAsk, IsWireAsk, IsAsked};
 
-use crate::asked::{Asked, OptionName, RunAsk, SampleAsk, Usage};
+use crate::asked::{Asked, OptionName, RunAsk, SampleAsk, Usage, WireAsk};
 use crate::command::{Command, command_of};
-use crate::options::{BASE, CORES, DURATION, LIMIT, Limits, SEED, STREAMS, limits_of};
+use crate::options::{
+    BASE, CORES, DELAY, DURATION, LIMIT, Limits, MILLIONTHS, SEED, STREAMS, limits_of,
+};
 
-// The word at a place.
+/// The word at a place.
 fn word(words: &[String], at: usize) -> &str
     requires { at < length words.now }
     ensures { result.now ≡ word (texts words.now) at }
@@ -14,7 +18,7 @@ fn word(words: &[String], at: usize) -> &str
     words[at].as_str()
 }
 
-// The place of an option's value among the first pairs of words, if it stands there.
+/// The place of an option's value among the first pairs of words, if it stands there.
 fn value_place(words: &[String], pairs: usize, name: &str) -> Option<usize>
     requires { 2 * pairs ≤ length words.now }
     ensures { result ≡ value_place (texts words.now) pairs name.now }
@@ -28,7 +32,7 @@ fn value_place(words: &[String], pairs: usize, name: &str) -> Option<usize>
     None
 }
 
-// Whether a text is one or more digits.
+/// Whether a text is one or more digits.
 fn is_number(text: &str) -> bool
     ensures { result ≡ is_number text.now }
 {
@@ -41,7 +45,7 @@ fn is_number(text: &str) -> bool
     !bytes.is_empty()
 }
 
-// Whether the number of one or more digits lies from a least to a greatest value.
+/// Whether the number of one or more digits lies from a least to a greatest value.
 fn is_within(least: u64, greatest: u64, text: &str) -> bool
     requires { is_number text.now ≡ true }
     ensures { result ≡ is_within least greatest text.now }
@@ -52,7 +56,7 @@ fn is_within(least: u64, greatest: u64, text: &str) -> bool
     }
 }
 
-// What is wrong with a value at a place.
+/// What is wrong with a value at a place.
 fn value_fault(limits: Limits, at: usize, text: &str) -> Option<Usage>
     ensures { result ≡ value_fault limits at text.now }
 {
@@ -66,7 +70,7 @@ fn value_fault(limits: Limits, at: usize, text: &str) -> Option<Usage>
     }
 }
 
-// What is wrong with a pair of words, an option and its value.
+/// What is wrong with a pair of words, an option and its value.
 fn pair_fault(command: Command, words: &[String], pair: usize) -> Option<Usage>
     requires { pair < length words.now / 2 }
     ensures { result ≡ pair_fault (options_of command) (texts words.now) pair }
@@ -85,7 +89,7 @@ fn pair_fault(command: Command, words: &[String], pair: usize) -> Option<Usage>
     value_fault(limits, at + 1, word(words, at + 1))
 }
 
-// What is wrong with the options of a command: the first fault from the left.
+/// What is wrong with the options of a command: the first fault from the left.
 fn options_fault(command: Command, words: &[String]) -> Option<Usage>
     ensures { result ≡ fault_of (options_of command) (texts words.now) }
 {
@@ -97,27 +101,27 @@ fn options_fault(command: Command, words: &[String]) -> Option<Usage>
     None
 }
 
-// An option that must be given and isn't.
+/// An option that must be given and isn't.
 fn missing_option(command: Command, words: &[String]) -> Option<Usage>
     ensures { result ≡ missing_option command (texts words.now) }
 {
     let seed = value_place(words, words.len() / 2, "--seed");
     match (command, seed) {
-        (Command::Sample, None) => Some(Usage::Missing {
+        (Command::Sample | Command::Wire, None) => Some(Usage::Missing {
             option: OptionName::Seed,
         }),
         _ => None,
     }
 }
 
-// What is wrong with the words of a command.
+/// What is wrong with the words of a command.
 fn command_fault(command: Command, words: &[String]) -> Option<Usage>
     ensures { result ≡ command_fault command (texts words.now) }
 {
     options_fault(command, words).or(missing_option(command, words))
 }
 
-// The number of one or more digits that a u64 holds.
+/// The number of one or more digits that a u64 holds.
 fn number(text: &str) -> u64
     requires digits { is_number text.now ≡ true }
     requires fits { digits_value 10 text.now < 2 ^ 64 }
@@ -126,7 +130,7 @@ fn number(text: &str) -> u64
     text.parse::<u64>().unwrap()
 }
 
-// The value of an option, where nothing is wrong with the words.
+/// The value of an option, where nothing is wrong with the words.
 fn value_of(command: Command, words: &[String], name: &str, limits: Limits) -> u64
     requires option { limits_of (options_of command) name.now ≡ Some limits }
     requires faultless { fault_of (options_of command) (texts words.now) ≡ None }
@@ -140,7 +144,7 @@ fn value_of(command: Command, words: &[String], name: &str, limits: Limits) -> u
     }
 }
 
-// The options of a run, where nothing is wrong with the words.
+/// The options of a run, where nothing is wrong with the words.
 fn run_ask(words: &[String]) -> RunAsk
     requires { fault_of run_options (texts words.now) ≡ None }
     ensures value { result ≡ run_ask (texts words.now) }
@@ -154,7 +158,7 @@ fn run_ask(words: &[String]) -> RunAsk
     }
 }
 
-// The run of a sample, where nothing is wrong with the words.
+/// The run of a sample, where nothing is wrong with the words.
 fn sample_run(words: &[String]) -> RunAsk
     requires { fault_of sample_options (texts words.now) ≡ None }
     ensures value { result ≡ run_of sample_options (texts words.now) 0 }
@@ -168,7 +172,7 @@ fn sample_run(words: &[String]) -> RunAsk
     }
 }
 
-// The options of a sample, where nothing is wrong with the words.
+/// The options of a sample, where nothing is wrong with the words.
 fn sample_ask(words: &[String]) -> SampleAsk
     requires { fault_of sample_options (texts words.now) ≡ None }
     ensures value { result ≡ sample_ask (texts words.now) }
@@ -181,7 +185,21 @@ fn sample_ask(words: &[String]) -> SampleAsk
     }
 }
 
-// What a command asks for, where nothing is wrong with the words.
+/// The options of a wire, where nothing is wrong with the words.
+fn wire_ask(words: &[String]) -> WireAsk
+    requires { fault_of wire_options (texts words.now) ≡ None }
+    ensures value { result ≡ wire_ask (texts words.now) }
+    ensures ranges { IsWireAsk result }
+{
+    WireAsk {
+        seed: value_of(Command::Wire, words, "--seed", SEED),
+        loss: value_of(Command::Wire, words, "--loss", MILLIONTHS) as u32,
+        copy: value_of(Command::Wire, words, "--copy", MILLIONTHS) as u32,
+        delay: value_of(Command::Wire, words, "--delay", DELAY),
+    }
+}
+
+/// What a command asks for, where nothing is wrong with the words.
 fn request(command: Command, words: &[String]) -> Asked
     requires { fault_of (options_of command) (texts words.now) ≡ None }
     ensures value { result ≡ request command (texts words.now) }
@@ -192,14 +210,16 @@ fn request(command: Command, words: &[String]) -> Asked
         Command::Check => Asked::Check,
         Command::Analyze => Asked::Analyze,
         Command::Sample => Asked::Sample(sample_ask(words)),
+        Command::Wire => Asked::Wire(wire_ask(words)),
         Command::Help => Asked::Help,
     }
 }
 
-/// What the command words ask for, or the first fault from the left. Word 0 is the command: `run`, `check`, `analyze`, `sample` or
-/// `help`. The options are pairs of words in any order, each at most once. `run` and `sample` have `--duration` (1 to 10^18, else
+/// What the command words ask for, or the first fault from the left. Word 0 is the command: `run`, `check`, `analyze`, `sample`,
+/// `wire` or `help`. The options are pairs of words in any order, each at most once. `run` and `sample` have `--duration` (1 to 10^18, else
 /// 10^9), `--limit` (1 to 100000000, else 100000) and `--cores` (1 to 64, else 1). `run` has `--base` (0 to 3000000000, else 0).
-/// `sample` has `--seed` (0 to 2^64 - 1, which must be given) and `--streams` (1 to 256, else 16). A value is one or more digits.
+/// `sample` and `wire` have `--seed` (0 to 2^64 - 1, which must be given). `sample` has `--streams` (1 to 256, else 16). `wire` has
+/// `--loss` and `--copy` (0 to 1000000, else 0) and `--delay` (0 to 10^18, else 0). A value is one or more digits.
 pub fn read_words(words: &[String]) -> Result<Asked, Usage>
     ensures value { result ≡ asked (texts words.now) }
     ensures ranges { IfOk result IsAsked }

@@ -1,10 +1,12 @@
+// Command words and what they ask for, by the table of options; their numbers are also read by clap.
+
 use super::*;
 use clap::builder::ValueParser;
 use clap::{Arg, ArgMatches, Command};
 use std::alloc::{AllocError, Global};
 use std::test::Fail;
 
-// The words of a line, which spaces part.
+/// The words of a line, which spaces part.
 fn words(alloc: Global, line: &str) -> Result<Vec<String>, AllocError> {
     let mut words = Vec::new(alloc);
     for word in line.split_whitespace() {
@@ -112,14 +114,14 @@ fn each_range_ends_where_the_table_says(rt: HostRuntime) -> Result<(), Fail> {
     Ok(())
 }
 
-// An option whose value lies from a least to a greatest one.
+/// An option whose value lies from a least to a greatest one.
 fn option<'a>(alloc: Global, name: &'a str, least: u64, greatest: u64) -> Arg<'a> {
     Arg::new(alloc, name)
         .long(name)
         .value_parser(ValueParser::unsigned(least, greatest))
 }
 
-// A command with the options that `run` and `sample` have both.
+/// A command with the options that `run` and `sample` have both.
 fn command<'a>(alloc: Global, name: &'a str) -> Result<Command<'a>, AllocError> {
     let duration = option(alloc, "duration", 1, 1_000_000_000_000_000_000);
     let limit = option(alloc, "limit", 1, 100_000_000);

@@ -32,6 +32,12 @@ const FIVE_LINES: &[u8] =
     b"flow 7 received 5 duplicates 1 lost 2 reordered 1 early 0 least 1000 greatest 5000 sum 15000\n\
 records 5 bytes 80 stamped 5\n";
 
+/// What a wire measures of it that copies each record.
+const TWICE_LINES: &[u8] =
+    b"flow 7 received 10 duplicates 6 lost 2 reordered 1 early 0 least 1000 greatest 5000 sum 30000\n\
+records 10 bytes 160 stamped 10\n\
+wire sent 5 lost 0 copied 5 arrived 10\n";
+
 /// The line of the first three packets of a sample, of 798 bytes each; the sum was worked out by another program.
 const SAMPLE: &[u8] = b"sample seed 1 streams 1 packets 3 bytes 2394 sum f4e5\n";
 
@@ -39,6 +45,7 @@ const HELP: &[u8] = b"trex run [--duration n] [--limit n] [--cores n] [--base n]
 trex check\n\
 trex analyze\n\
 trex sample --seed n [--streams n] [--duration n] [--limit n] [--cores n]\n\
+trex wire --seed n [--loss n] [--copy n] [--delay n]\n\
 trex help\n";
 
 /// A line of words with the bytes that it may read, the number of its reads at a byte a call, and all that it writes.
@@ -51,7 +58,7 @@ struct Case<'a> {
 }
 
 // One read more than there are bytes, since the end is read too.
-const CASES: [Case<'static>; 5] = [
+const CASES: [Case<'static>; 6] = [
     Case {
         line: "run",
         input: THIRDS,
@@ -78,6 +85,13 @@ const CASES: [Case<'static>; 5] = [
         input: b"[",
         reads: 0,
         out: SAMPLE,
+        notes: b"",
+    },
+    Case {
+        line: "wire --seed 1 --copy 1000000",
+        input: FIVE,
+        reads: 185,
+        out: TWICE_LINES,
         notes: b"",
     },
     Case {

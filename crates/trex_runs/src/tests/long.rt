@@ -181,7 +181,7 @@ const LONG_STREAM: Made<'static> = Made {
     end: r#"]},"mode":{"type":"continuous","rate":{"type":"pps","value":1000000}}}}]"#,
 };
 
-// a batch holds 113 packets of 9,216 bytes, so the next one asks for a second round
+/// A batch holds 113 packets of 9,216 bytes, so the next one asks for a second round.
 #[test]
 fn a_round_is_made_where_a_batch_is_used_up(rt: HostRuntime) -> Result<(), Fail> {
     let alloc = rt.alloc();

@@ -9,7 +9,7 @@ use crate::{ChainSpec, Leg, Mode, Period};
 use std::process::Abort;
 use std::test::Fail;
 
-// A burst of 70 packets each 10 / 3 ns, 2 ns after what is before it.
+/// A burst of 70 packets each 10 / 3 ns, 2 ns after what is before it.
 const BURST: [u64; 210] = [
     2, 5, 8, 12, 15, 18, 22, 25, 28, 32, 35, 38, 42, 45, 48, 52, 55, 58, 62, 65, 68, 72, 75, 78,
     82, 85, 88, 92, 95, 98, 102, 105, 108, 112, 115, 118, 122, 125, 128, 132, 135, 138, 142, 145,
@@ -24,13 +24,13 @@ const BURST: [u64; 210] = [
     790, 794, 797, 800, 804, 807, 810, 814, 817, 820, 824, 827, 830, 834,
 ];
 
-// Then, 1 ns after it, three bursts of 5 packets each 7 / 2 ns, 7 ns apart; and both again. The last time is below 869, the next one is 869.
+/// Then, 1 ns after it, three bursts of 5 packets each 7 / 2 ns, 7 ns apart; and both again. The last time is below 869, the next one is 869.
 const BURSTS: [u64; 37] = [
     236, 239, 243, 246, 250, 260, 263, 267, 270, 274, 284, 287, 291, 294, 298, 537, 540, 544, 547,
     551, 561, 564, 568, 571, 575, 585, 588, 592, 595, 599, 838, 841, 845, 848, 852, 862, 865,
 ];
 
-// Packets without an end each 1000 / 7 ns, from 3 ns on and below 18574, which is the time of the next one.
+/// Packets without an end each 1000 / 7 ns, from 3 ns on and below 18574, which is the time of the next one.
 const ENDLESS: [u64; 130] = [
     3, 145, 288, 431, 574, 717, 860, 1003, 1145, 1288, 1431, 1574, 1717, 1860, 2003, 2145, 2288,
     2431, 2574, 2717, 2860, 3003, 3145, 3288, 3431, 3574, 3717, 3860, 4003, 4145, 4288, 4431, 4574,
@@ -43,7 +43,7 @@ const ENDLESS: [u64; 130] = [
     16860, 17003, 17145, 17288, 17431, 17574, 17717, 17860, 18003, 18145, 18288, 18431,
 ];
 
-// Bursts without an end of 66 packets each 5 / 4 ns, 3 ns apart, below 217, which would be the time of the next packet.
+/// Bursts without an end of 66 packets each 5 / 4 ns, 3 ns apart, below 217, which would be the time of the next packet.
 const ENDLESS_BURSTS: [u64; 170] = [
     0, 1, 2, 3, 5, 6, 7, 8, 10, 11, 12, 13, 15, 16, 17, 18, 20, 21, 22, 23, 25, 26, 27, 28, 30, 31,
     32, 33, 35, 36, 37, 38, 40, 41, 42, 43, 45, 46, 47, 48, 50, 51, 52, 53, 55, 56, 57, 58, 60, 61,
@@ -55,8 +55,8 @@ const ENDLESS_BURSTS: [u64; 170] = [
     193, 195, 196, 197, 198, 200, 201, 202, 203, 205, 206, 207, 208, 210, 211, 212, 213, 215, 216,
 ];
 
-// On each number of cores, core after core sends the packets whose numbers leave it as the remainder, later ones later, at their
-// streams' times, and all cores together send all of them.
+/// On each number of cores, core after core sends the packets whose numbers leave it as the remainder, later ones later, at their
+/// streams' times, and all cores together send all of them.
 fn sends_at(rt: &impl Abort, chain: &ChainSpec, duration: u64, times: &[&[u64]], all: usize)
     requires chain { IsChain (chain_of chain.now) }
     requires duration { duration ≤ 10 ^ 18 }

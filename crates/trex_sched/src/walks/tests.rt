@@ -1,3 +1,5 @@
+// Packets of many chains in one order.
+
 ghost use Rattle.std.specs.Prelude.{◌≢◌, IfOk, map};
 ghost use Rattle.std.specs.List.{AllByRecursion};
 ghost use Rattle.trex_sched.specs.Chain.{chain_of, IsChain};
@@ -10,7 +12,7 @@ use std::alloc::{AllocError, Global};
 use std::process::Abort;
 use std::test::Fail;
 
-// Three chains of one leg each, which nothing follows.
+/// Three chains of one leg each, which nothing follows.
 fn three(alloc: Global, a: Leg, b: Leg, c: Leg) -> Result<[ChainSpec; 3], AllocError>
     requires packets { HasPackets a.mode × HasPackets b.mode × HasPackets c.mode }
     requires streams { (a.stream ≢ b.stream) × (a.stream ≢ c.stream) × (b.stream ≢ c.stream) }
@@ -32,7 +34,7 @@ fn three(alloc: Global, a: Leg, b: Leg, c: Leg) -> Result<[ChainSpec; 3], AllocE
     Ok([first, second, third])
 }
 
-// The walks send packets of these times, streams and numbers, and no others.
+/// The walks send packets of these times, streams and numbers, and no others.
 fn send(rt: &impl Abort, mut walks: Walks<'_>, packets: &[(u64, u32, u64)]) {
     for packet in packets {
         let next = walks.peek();

@@ -2,9 +2,9 @@ use Rattle.std.proofs.Common.{◌≡◌, ◌<◌, ◌∙◌, Option, length, sli
 use Rattle.std.proofs.Math.Seq.{map-set_same}
 use Rattle.std.proofs.lemmas.List.{get_or-set_same}
 use Rattle.std.specs.Option.{IsSomeAnd}
-use Rattle.trex_core.specs.Registers.{Standing, values_at}
+use Rattle.trex_core.specs.Registers.{Standing, values_by}
 use Rattle.trex_core.proofs.Making.{row_is, rows_long, some_is}
-use Rattle.trex_profile.specs.Packets.{variables}
+use Rattle.trex_profile.specs.Packets.{values_of}
 use Rattle.trex_profile.specs.Stream.{Stream}
 use Rattle.trex_core.proofs.maker.make_packet.Goals as goal
 
@@ -14,19 +14,18 @@ write_packet-requires-clause-values c =
     let slot = c.args.slot.now in
     let rows = c.args.registers.now in
     let own = c.index-registers-position.result in
-    let long = rows_long (λ (r : Standing). r.variables) rows p c.requires.registers in
+    let long = rows_long values_by values_of rows p c.requires.registers in
     let below : slot.stream < length rows = omega arith in
-    let row = row_is (λ (r : Standing). r.variables) rows p slot.stream own c.requires.registers c.requires.slot.stream c.index-registers-position.is in
-    let s = some_is (slice_get p slot.stream) (λ s. own.variables ≡ variables s) row in
-    let read : c.values.result.now ≡ values_at (variables s.0) slot.number =
+    let row = row_is values_by values_of rows p slot.stream own c.requires.registers c.requires.slot.stream c.index-registers-position.is in
+    let s = some_is (slice_get p slot.stream) (λ s. values_by own ≡ values_of s) row in
+    let read : c.values.result.now ≡ values_of s.0 slot.number slot.in_run =
     c.values.ensures
-    ∙ ap (λ (r : Standing). values_at r.variables r.number)
+    ∙ ap (λ (r : Standing). values_by r r.number r.place)
     (get_or-set_same rows slot.stream c.go_to.new.self c.index-registers-position-2.result below ∙ c.go_to.ensures)
-    ∙ ap (λ (r : Standing). values_at r.variables slot.number) (sym c.index-registers-position.is)
-    ∙ ap (λ vs. values_at vs slot.number) s.2 in
-    subst (λ (o : Option Stream). IsSomeAnd o (λ stream. c.values.result.now ≡ values_at (variables stream) slot.number)) (sym s.1) read
+    ∙ ap (λ (r : Standing). values_by r slot.number slot.in_run) (sym c.index-registers-position.is)
+    ∙ ap (λ values. values slot.number slot.in_run) s.2 in
+    subst (λ (o : Option Stream). IsSomeAnd o (λ stream. c.values.result.now ≡ values_of stream slot.number slot.in_run)) (sym s.1) read
 
 pub returns-clause-registers : goal.returns-clause-registers
 returns-clause-registers c =
-    map-set_same (λ (r : Standing). r.variables) c.args.registers.now c.args.slot.now.stream c.go_to.new.self c.index-registers-position.result
-    (ap (λ (r : Standing). r.variables) c.go_to.ensures)
+    map-set_same values_by c.args.registers.now c.args.slot.now.stream c.go_to.new.self c.index-registers-position.result (ap values_by c.go_to.ensures)

@@ -1,13 +1,13 @@
 use Rattle.std.proofs.Common.{◌≡◌, ◌++◌, List, length, take, drop, get_or, ap, sym, subst, ◌∙◌, true, arith, rules}
 use Rattle.std.proofs.lemmas.List.{take-append-drop}
 use mathlib.Core.List.{append-nil}
-use Rattle.trex_claims.specs.declared.view.Stand.{Stand}
+use Rattle.trex_claims.specs.declared.view.CoreState.{CoreState}
 use Rattle.trex_claims.specs.Board.{below}
-use Rattle.trex_claims.specs.Moves.{vacant, stand_at, rested}
+use Rattle.trex_claims.specs.Moves.{vacant, state_at, round_closed}
 use Rattle.trex_claims.specs.Views.{IsFull, times}
 use Rattle.trex_crew.proofs.EntryLemmas.{entered_beside}
 use Rattle.trex_crew.proofs.Lent.{lent_full}
-use Rattle.trex_crew.proofs.Turned.{all_kept, all_turned, begun_ready, entered_works, may_turn, stand_turned}
+use Rattle.trex_crew.proofs.Turned.{all_kept, all_turned, opened_ready, entered_works, may_turn, state_turned}
 use Rattle.trex_crew.proofs.rounds.round_on_board.Goals as goal
 
 pub begin-base-requires-clause-full : goal.begin-base-requires-clause-full
@@ -21,8 +21,8 @@ work_by_gates-requires-clause-ready g c κs within =
     let p = g.T.Piece in
     let me = c.lend_all.new.seat.me in
     let calm = c.lend_all.ensures.calm in
-    let long : length me.0.round.stands ≡ length c.args.works.now.items = calm.cores_are ∙ sym c.requires.cores in
-    begun_ready me.0 c.begin-base.result me.1 c.begin-base.new.seat.me c.begin-base.ensures.seat calm.free.1
+    let long : length me.0.round.cores ≡ length c.args.works.now.items = calm.cores_are ∙ sym c.requires.cores in
+    opened_ready me.0 c.begin-base.result me.1 c.begin-base.new.seat.me c.begin-base.ensures.seat calm.free.1
     (may_turn p.core_of p.turns_of p.stem_of p.is_settled p.is_sound p.turned (g.met.T.Piece g.world.𝓛 g.world.𝓜 g.world.𝓡 ((λ s x. x), (λ x. x), (λ x. x), λ x. x)).is_turned me.0 c.args.works.now.items long c.lend_all.ensures.lent c.requires.turns)
 
 pub fetch_all-requires-clause-full : goal.fetch_all-requires-clause-full
@@ -30,11 +30,11 @@ fetch_all-requires-clause-full g c κs within core h =
     let p = g.T.Piece in
     let me = c.lend_all.new.seat.me in
     let after = c.work_by_gates.new.seat.me in
-    let same : after.0.round.stands ≡ me.0.round.stands = ap (λ r. r.stands) c.work_by_gates.ensures.drawn.round ∙ ap (λ m. m.0.round.stands) c.begin-base.ensures.seat in
-    let stand : stand_at after.0 core ≡ stand_at me.0 core = ap (λ (l : List Stand). get_or l core vacant) same in
+    let same : after.0.round.cores ≡ me.0.round.cores = ap (λ r. r.cores) c.work_by_gates.ensures.drawn.round ∙ ap (λ m. m.0.round.cores) c.begin-base.ensures.seat in
+    let stand : state_at after.0 core ≡ state_at me.0 core = ap (λ (l : List CoreState). get_or l core vacant) same in
     let count = c.len-count.ensures in
     let cores = c.requires.cores in
-    subst (λ t. IsFull t.what) (sym stand)
+    subst (λ t. IsFull t.slot) (sym stand)
     (lent_full p.turns_of p.stem_of p.is_sound me.0 0 c.args.works.now.items core (omega arith) (omega arith) c.lend_all.ensures.lent)
 
 pub returns-clause-kept : goal.returns-clause-kept
@@ -42,14 +42,14 @@ returns-clause-kept g c =
     let p = g.T.Piece in
     let me = c.lend_all.new.seat.me in
     let after = c.work_by_gates.new.seat.me in
-    let same : after.0.round.stands ≡ me.0.round.stands = ap (λ r. r.stands) c.work_by_gates.ensures.drawn.round ∙ ap (λ m. m.0.round.stands) c.begin-base.ensures.seat in
+    let same : after.0.round.cores ≡ me.0.round.cores = ap (λ r. r.cores) c.work_by_gates.ensures.drawn.round ∙ ap (λ m. m.0.round.cores) c.begin-base.ensures.seat in
     let running : after.0.round.running ≡ true = ap (λ r. r.running) c.work_by_gates.ensures.drawn.round ∙ ap (λ m. m.0.round.running) c.begin-base.ensures.seat in
     let count : c.len-count.result ≡ length c.args.works.now.items = search rules in
     let cores = c.requires.cores in
-    let long : length me.0.round.stands ≡ length c.args.works.now.items = c.lend_all.ensures.calm.cores_are ∙ sym cores in
-    all_kept p.core_of p.turns_of p.stem_of p.is_settled p.is_sound p.turned (g.met.T.Piece g.world.𝓛 g.world.𝓜 g.world.𝓡 ((λ s x. x), (λ x. x), (λ x. x), λ x. x)).is_turned me.0 (rested after.0) 0 c.args.works.now.items c.fetch_all.new.works.items
+    let long : length me.0.round.cores ≡ length c.args.works.now.items = c.lend_all.ensures.calm.cores_are ∙ sym cores in
+    all_kept p.core_of p.turns_of p.stem_of p.is_settled p.is_sound p.turned (g.met.T.Piece g.world.𝓛 g.world.𝓜 g.world.𝓡 ((λ s x. x), (λ x. x), (λ x. x), λ x. x)).is_turned me.0 (round_closed after.0) 0 c.args.works.now.items c.fetch_all.new.works.items
     c.requires.order c.lend_all.ensures.lent c.fetch_all.ensures.works (c.fetch_all.ensures.length ∙ count)
-    (λ k h. stand_turned me.0 after.0 k c.len-count.result running same (omega arith) (omega arith) (c.fetch_all.ensures.each_once k))
+    (λ k h. state_turned me.0 after.0 k c.len-count.result running same (omega arith) (omega arith) (c.fetch_all.ensures.each_once k))
 
 pub returns-clause-works : goal.returns-clause-works
 returns-clause-works g c =

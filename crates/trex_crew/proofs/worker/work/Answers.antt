@@ -1,6 +1,6 @@
 use Rattle.std.proofs.Common.{ap, ◌∙◌}
 use Rattle.trex_claims.specs.Boards.{cores_of}
-use Rattle.trex_crew.proofs.Drawing.{after_is, may_draw_on, worked_on}
+use Rattle.trex_crew.proofs.SeatDraws.{after_is, may_draw_on, worked_on}
 use Rattle.trex_crew.proofs.worker.work.Goals as goal
 
 pub loop-claim-preserved : goal.loop-claim-preserved
@@ -20,7 +20,7 @@ loop-claim-preserved g c =
       ready = may_draw_on piece.core_of piece.turns_of piece.stem_of piece.is_settled slots core me drawn after drew put c.args.base i.ready;
       round = ap (λ m. m.0.round) is ∙ i.round;
       role = ap (λ m. m.0.role) is ∙ i.role;
-      outs = ap (λ m. m.0.outs) is ∙ i.outs;
+      seats_out = ap (λ m. m.0.seats_out) is ∙ i.seats_out;
       gate = worked_on piece.core_of piece.turns_of piece.stem_of piece.is_settled slots core me drawn after drew put g.G.Gate.entries c.args.round c.args.gate.now
           c.loop-claim.gate c.turn_claimed.new.gate c.args.seat.now.me.0.done i.gate c.turn_claimed.ensures.gate;
     }

@@ -9,7 +9,7 @@ invariant-loop-claim g l = record {
   ready : MayDraw l.base l.seat.me;
   round : l.seat.me.0.round ≡ l.fn.seat.me.0.round;
   role : l.seat.me.0.role ≡ l.fn.seat.me.0.role;
-  outs : l.seat.me.0.outs ≡ l.fn.seat.me.0.outs;
+  seats_out : l.seat.me.0.seats_out ≡ l.fn.seat.me.0.seats_out;
   gate : Worked g.G.Gate.entries l.round (l.fn.gate ∷ []) (l.gate ∷ []) l.fn.seat.me.0.done l.seat.me.0.done;
 }
 

@@ -5,11 +5,11 @@ use Rattle.trex_crew.proofs.workers.+workers.Given as goal
 abbrev pub decreases-work_by_gates : goal.decreases-work_by_gates
 decreases-work_by_gates g l = 4 * length l.gates.now + 3
 
-abbrev pub decreases-work_by_parts : goal.decreases-work_by_parts
-decreases-work_by_parts g l = 4 * length l.gates.now + 2
+abbrev pub decreases-work_with_other : goal.decreases-work_with_other
+decreases-work_with_other g l = 4 * length l.gates.now + 2
 
-abbrev pub decreases-work_by_seats : goal.decreases-work_by_seats
-decreases-work_by_seats g l = 4 * length l.right.now + 5
+abbrev pub decreases-work_in_threads : goal.decreases-work_in_threads
+decreases-work_in_threads g l = 4 * length l.right.now + 5
 
-abbrev pub decreases-work_by_seats-join_mut+arg3 : goal.decreases-work_by_seats-join_mut+arg3
-decreases-work_by_seats-join_mut+arg3 g l = 4 * length l.right.now + 4
+abbrev pub decreases-work_in_threads-join_mut+arg3 : goal.decreases-work_in_threads-join_mut+arg3
+decreases-work_in_threads-join_mut+arg3 g l = 4 * length l.right.now + 4

@@ -1,4 +1,4 @@
-use Rattle.trex_sched.proofs.Rising.{entries_distinct, entries_streams}
+use Rattle.trex_sched.proofs.EntryOrder.{entries_distinct, entries_streams}
 use Rattle.trex_sched.proofs.Shares.{all_distinct}
 use Rattle.trex_sched.proofs.laws.chains_are_apart.Goals as goal
 

@@ -1,4 +1,4 @@
-use Rattle.trex_sched.proofs.Rising.{starts_rise}
+use Rattle.trex_sched.proofs.EntryOrder.{starts_rise}
 use Rattle.trex_sched.proofs.Visits.{runs_all, runs_visits}
 use Rattle.trex_sched.proofs.laws.runs_rise.Goals as goal
 

@@ -1,6 +1,6 @@
 use Rattle.std.proofs.Common.{sym, ◌∙◌}
 use Rattle.trex_sched.specs.Chain.{chain_of}
-use Rattle.trex_sched.proofs.Coming.{whole_none, whole_some}
+use Rattle.trex_sched.proofs.Remaining.{whole_none, whole_some}
 use Rattle.trex_sched.proofs.walk.first_of.Goals as goal
 
 pub returns-in-Some-clause-whole : goal.returns-in-Some-clause-whole

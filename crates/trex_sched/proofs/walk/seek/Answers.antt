@@ -1,6 +1,6 @@
 use Rattle.std.proofs.Common.{arith, sym, ◌∙◌}
 use Rattle.trex_sched.specs.Chain.{chain_of}
-use Rattle.trex_sched.proofs.Coming.{next_is, rest_ends, rest_goes_on}
+use Rattle.trex_sched.proofs.Remaining.{next_is, rest_ends, rest_goes_on}
 use Rattle.trex_sched.proofs.Reached.{reached_next, sent_before, start_rises, visit_small}
 use Rattle.trex_sched.proofs.walk.seek.Goals as goal
 

@@ -1,4 +1,4 @@
-use Rattle.trex_top.proofs.EndsLemmas.{usage, causes, leaves, rounds, run_refuses, check_refuses, analysis_refuses, completes}
+use Rattle.trex_top.proofs.EndsLemmas.{usage, causes, leaves, rounds, run_refuses, check_refuses, measuring_refuses, completes}
 use Rattle.trex_top.proofs.endings.endings_hold.Goals as goal
 
 pub returns-clause-usage : goal.returns-clause-usage
@@ -19,8 +19,8 @@ returns-clause-run_refuses g c ask input out notes gates s refused e = run_refus
 pub returns-clause-check_refuses : goal.returns-clause-check_refuses
 returns-clause-check_refuses g c input out notes s refused e = check_refuses input out notes s refused e
 
-pub returns-clause-analysis_refuses : goal.returns-clause-analysis_refuses
-returns-clause-analysis_refuses g c input out notes s bad e = analysis_refuses input out notes c.one_reading.ensures s bad e
+pub returns-clause-measuring_refuses : goal.returns-clause-measuring_refuses
+returns-clause-measuring_refuses g c text input out notes s bad e = measuring_refuses input out notes text c.one_reading.ensures s bad e
 
 pub returns-clause-complete : goal.returns-clause-complete
 returns-clause-complete g c a input out notes gates s suits read wrote noted e =

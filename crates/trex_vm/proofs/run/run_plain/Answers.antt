@@ -1,11 +1,11 @@
-use Rattle.std.proofs.Common.{◌≡◌, ◌≤◌, ◌-◌, ◌+◌, ◌++◌, ℕ, List, length, take, drop, sym, ap, subst, ◌∙◌, arith, Bool, Option, is_some}
+use Rattle.std.proofs.Common.{◌≡◌, ◌≤◌, ◌-◌, ◌+◌, ◌++◌, ℕ, List, length, take, drop, sym, ap, subst, ◌∙◌, arith, Bool, Option}
 use Rattle.std.proofs.lemmas.List.{take_at, drop_at, drop-drop, length-take-le}
 use Rattle.std.proofs.lemmas.List.Folds.{list_any_none}
 use Rattle.std.specs.List.{list_any}
 use Rattle.trex_stamp.specs.declared.header.Stamp.{Stamp}
 use Rattle.trex_vars.specs.declared.value.VarValue.{VarValue}
 use Rattle.trex_vm.specs.declared.instr.Instr.{Instr}
-use Rattle.trex_vm.specs.Packet.{after_all, trimmed, stamped, stamped_template, packet}
+use Rattle.trex_vm.specs.Packet.{after_all, trimmed, version_of, stamped, stamped_template, packet}
 use Rattle.trex_vm.specs.Cover.{StaysFixed, HeaderVerifies}
 use Rattle.trex_vm.specs.Rules.{writes_past, misses_header}
 use Rattle.trex_vm.specs.Program.{ProgramView, IsProgram, IsTemplateOf, AreValuesOf}
@@ -19,7 +19,7 @@ record Lends (p : ProgramView) (values : List VarValue) (stamp : Option Stamp) (
   len : n ≡ trimmed values instrs (length template)
 
 lends : (p : ProgramView) (values : List VarValue) (stamp : Option Stamp) (template : List ℕ) (instrs : List Instr) (n : ℕ) → IsProgram p → IsTemplateOf p template → AreValuesOf p values
-    → is_some stamp ≡ p.stamps → instrs ≡ p.instrs → n ≡ trimmed values instrs (length template) → Lends p values stamp template instrs n
+    → version_of stamp ≡ p.stamp → instrs ≡ p.instrs → n ≡ trimmed values instrs (length template) → Lends p values stamp template instrs n
 lends p values stamp template instrs n program meant valued stamps same len =
     record { runs = record { program = program; meant = meant; valued = valued; stamps = stamps }; same = same; len = len }
 

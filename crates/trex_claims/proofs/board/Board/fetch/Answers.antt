@@ -1,76 +1,26 @@
-use Rattle.std.proofs.Common.{◌≡◌, ◌+◌, ◌<◌, Some, inl, inr, refl, sym, subst, ◌∙◌, None, arith}
+use Rattle.std.proofs.Common.{◌≡◌, refl, sym, subst}
 use Rattle.std.specs.Prelude.{IsSome}
-use Rattle.trex_claims.specs.Views.{IsFull}
 use Rattle.trex_claims.specs.Board.{IsPiece}
-use Rattle.trex_claims.specs.Moves.{stand_at, rested}
-use Rattle.trex_claims.proofs.SlotLemmas.{rested_what}
-use Rattle.trex_claims.proofs.CallLemmas.{first_step, gives_back, reached_at, homed_is, homed_off, found_is}
+use Rattle.trex_claims.specs.Moves.{state_at, round_closed}
+use Rattle.trex_claims.proofs.CallLemmas.{full_fits}
+use Rattle.trex_claims.proofs.SlotLemmas.{still_full}
 use Rattle.trex_claims.proofs.board.Board.fetch.Goals as goal
 
-pub load-requires : goal.load-requires
-load-requires g c =
+pub unwrap-requires : goal.unwrap-requires
+unwrap-requires g c =
     let piece = g.T.Piece in
-    let table = c.args.self.now.table.shared.table_id in
     let v = c.args.seat.now.me.0 in
     let core = c.args.core in
-    let word : core + 1 < table.words = omega (arith, c.args.self.now.sized.0, c.requires.core) in
-    let full : IsFull (stand_at (rested v) core).what = subst IsFull (sym (rested_what v.round.running v core)) c.requires.full in (
-      c.requires.board,
-      word,
-      first_step piece.core_of piece.turns_of piece.stem_of piece.is_settled table.slots c.args.seat.now.id c.args.seat.now.me core c.requires.first c.requires.free.0 (inr c.requires.alone) c.requires.core (inl full),
-    )
-
-pub load-requires-2 : goal.load-requires-2
-load-requires-2 g c =
-    let piece = g.T.Piece in
-    let table = c.args.self.now.table.shared.table_id in
-    let me = c.args.seat.now.me in
-    let core = c.args.core in
-    let word : core + 1 < table.words = omega (arith, c.args.self.now.sized.0, c.requires.core) in
-    let r = reached_at piece.core_of piece.turns_of piece.stem_of piece.is_settled table.slots core me c.load.new.seat.me c.load.ensures.2 in
-    let seat = c.exchange.new.seat in
-    let its_core : (p : g.row.T.Denot) → None ≡ Some p → piece.core_of p ≡ core = λ p e. cc in (
-      c.exchange.ensures.0 ∙ c.load.ensures.0 ∙ c.requires.board,
-      word,
-      gives_back piece.core_of piece.turns_of piece.stem_of piece.is_settled table.slots core me c.load.new.seat.me c.requires.free.1 c.requires.core r None seat.me c.exchange.ensures.3
-          seat.id c.requires.first its_core,
-    )
-
-pub returns-clause-seat : goal.returns-clause-seat
-returns-clause-seat g c =
-    let piece = g.T.Piece in
-    let table = c.args.self.now.table.shared.table_id in
-    let me = c.args.seat.now.me in
-    let r = reached_at piece.core_of piece.turns_of piece.stem_of piece.is_settled table.slots c.args.core me c.load.new.seat.me c.load.ensures.2 in
-    homed_is piece.core_of piece.turns_of piece.stem_of piece.is_settled table.slots c.args.core me c.load.new.seat.me c.requires.free.1 c.requires.core r None c.exchange.new.seat.me c.exchange.ensures.3 c.load-2.new.seat.me c.load-2.ensures.2
-
-pub unwrap-piece-requires : goal.unwrap-piece-requires
-unwrap-piece-requires g c =
-    let piece = g.T.Piece in
-    let table = c.args.self.now.table.shared.table_id in
-    let me = c.args.seat.now.me in
-    let r = reached_at piece.core_of piece.turns_of piece.stem_of piece.is_settled table.slots c.args.core me c.load.new.seat.me c.load.ensures.2 in
-    let found = found_is piece.core_of piece.turns_of piece.stem_of piece.is_settled table.slots c.args.core me c.load.new.seat.me c.requires.free.1 c.requires.core r c.exchange.result c.exchange.ensures.2 c.requires.full in
+    let state = state_at (round_closed v) core in
+    let found = full_fits piece.core_of piece.turns_of piece.stem_of piece.is_settled state.slot core state c.change.result (still_full v core c.requires.full) c.change.ensures.found in
     subst IsSome (sym found.1) refl
 
 pub returns-clause-piece : goal.returns-clause-piece
 returns-clause-piece g c =
     let piece = g.T.Piece in
-    let table = c.args.self.now.table.shared.table_id in
-    let me = c.args.seat.now.me in
-    let r = reached_at piece.core_of piece.turns_of piece.stem_of piece.is_settled table.slots c.args.core me c.load.new.seat.me c.load.ensures.2 in
-    let found = found_is piece.core_of piece.turns_of piece.stem_of piece.is_settled table.slots c.args.core me c.load.new.seat.me c.requires.free.1 c.requires.core r c.exchange.result c.exchange.ensures.2 c.requires.full in
-    let u = rested me.0 in
-    let same : found.0 ≡ c.unwrap-piece.result = cc in
-    subst (λ p. IsPiece piece.core_of piece.turns_of piece.stem_of piece.is_settled c.args.core (stand_at u c.args.core) 0 p) same found.2
-
-pub returns-clause-each_once : goal.returns-clause-each_once
-returns-clause-each_once g c = c.load.ensures.2.each_once
-
-pub returns-clause-closed : goal.returns-clause-closed
-returns-clause-closed g c =
-    let piece = g.T.Piece in
-    let table = c.args.self.now.table.shared.table_id in
-    let me = c.args.seat.now.me in
-    let r = reached_at piece.core_of piece.turns_of piece.stem_of piece.is_settled table.slots c.args.core me c.load.new.seat.me c.load.ensures.2 in
-    homed_off piece.core_of piece.turns_of piece.stem_of piece.is_settled table.slots c.args.core me c.load.new.seat.me c.requires.free.1 c.requires.core r None c.exchange.new.seat.me c.exchange.ensures.3 c.load-2.new.seat.me c.load-2.ensures.2
+    let v = c.args.seat.now.me.0 in
+    let core = c.args.core in
+    let state = state_at (round_closed v) core in
+    let found = full_fits piece.core_of piece.turns_of piece.stem_of piece.is_settled state.slot core state c.change.result (still_full v core c.requires.full) c.change.ensures.found in
+    let same : found.0 ≡ c.unwrap.result = cc in
+    subst (λ p. IsPiece piece.core_of piece.turns_of piece.stem_of piece.is_settled core state 0 p) same found.2

@@ -48,7 +48,7 @@ returns-clause-slots c =
     let all : AllByRecursion (IsSlotOf p) (all_entries (chains_of p) plan.duration) =
     all_slots p plan.duration (chains_of p) c.self.invariant.0 are (c.profiles_can_be_walked.ensures.streams p)
     (λ chain. c.entries_rise.ensures.below chain plan.duration) (λ chain. c.entries_rise.ensures.numbers chain plan.duration)
-    (λ chain. c.entries_rise.ensures.streams chain plan.duration) in
+    (λ chain. c.entries_rise.ensures.places chain plan.duration) (λ chain. c.entries_rise.ensures.streams chain plan.duration) in
     let kept : AllByRecursion (IsSlotOf p) (share_of_slots c.args.core c.args.cores (schedule p plan.duration)) =
     all-filter (IsSlotOf p) (λ x. x.number % c.args.cores == c.args.core) (schedule p plan.duration)
     (all-ordered (IsSlotOf p) (all_entries (chains_of p) plan.duration) all) in

@@ -1,12 +1,13 @@
 use Rattle.std.proofs.Common.{◌≡◌, map, take}
-use Rattle.trex_core.specs.Registers.{stand_at, values_at}
+use Rattle.std.specs.List.{AllByRecursion}
+use Rattle.trex_core.specs.Registers.{IsAt, restarts_of, shown, variables_of}
 use Rattle.trex_vars.specs.Variable.{variable_of}
 use Rattle.trex_core.proofs.registers.Registers.start.Given as goal
 
-abbrev pub invariant-loop-spec : goal.invariant-loop-spec
-invariant-loop-spec l =
-    let variables = map variable_of (take l.spec-index l.vars) in
-    record {
-      registers : l.registers.items ≡ map (stand_at l.cores l.core) variables;
-      values : l.values.items ≡ values_at variables l.core;
-    }
+abbrev pub invariant-loop-at : goal.invariant-loop-at
+invariant-loop-at l = record {
+  variables : variables_of l.registers.items ≡ map variable_of (take l.at l.vars);
+  restarts : restarts_of l.registers.items ≡ take l.at l.restart;
+  stand : AllByRecursion (IsAt l.cores l.core l.core) l.registers.items;
+  read : l.values.items ≡ map shown l.registers.items;
+}

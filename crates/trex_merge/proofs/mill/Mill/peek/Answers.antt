@@ -5,7 +5,7 @@ use Rattle.trex_merge.specs.Heads.{earlier_of, least_from}
 use Rattle.trex_merge.specs.Queues.{all_waiting, needy_from}
 use Rattle.trex_merge.proofs.FeedLemmas.{earlier_none, feed_passed, finished_served, none_waits_at, waits, waits_at}
 use Rattle.trex_merge.proofs.mill.Mill.peek.Goals as goal
-use Rattle.trex_merge.proofs.mill.Mill.peek.Goals.{in-Some, in-None+else-owes}
+use Rattle.trex_merge.proofs.mill.Mill.peek.Goals.{in-Some, in-None+else-not-finished}
 
 pub loop-at-preserved : goal.loop-at-preserved
 loop-at-preserved g c =
@@ -25,8 +25,8 @@ loop-at-preserved g c =
           ∙ ap (λ (k : Key). earlier_of best (Some (record { key = k; feed = at }))) w.key.ensures
           ∙ ap (earlier_of best) (sym (waits_at at mine.waiting (frame_of w.in-Some.head) first)))
           c.loop-at.invariant
-      | in-None+else-owes w ↦
-          passed (finished_served mine (sym w.finished-done.ensures ∙ w.if-owes.false))
+      | in-None+else-not-finished w ↦
+          passed (finished_served mine (sym w.finished.ensures ∙ w.if-not-finished.false))
           (w.best-is ∙ sym (earlier_none best) ∙ ap (earlier_of best) (sym (none_waits_at at mine.waiting w.in-None.ensures)))
           c.loop-at.invariant
     ]

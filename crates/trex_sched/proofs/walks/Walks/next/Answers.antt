@@ -24,8 +24,8 @@ returns-in_err-head-clause-slot c =
 pub returns-in_err-head-clause-rest : goal.returns-in_err-head-clause-rest
 returns-in_err-head-clause-rest c = nothing_left c ∙ sym (ap (drop 1) (sym c.self.view_is ∙ nothing_left c))
 
-pub pass-requires-clause-place : goal.pass-requires-clause-place
-pass-requires-clause-place c =
+pub take_next-requires-clause-place : goal.take_next-requires-clause-place
+take_next-requires-clause-place c =
     let lists = c.self.inside.walks.items in
     let x = c.in_ok-head.field-0 in
     let known = heads_shuffled lists _ (x ∷ heap_items c.pop.new.self) c.in_ok-head.ensures.permutation c.self.invariant.known in
@@ -33,15 +33,15 @@ pass-requires-clause-place c =
     let whole = c.self.inside.walks.ok in
     omega arith
 
-pub pass-requires-clause-others : goal.pass-requires-clause-others
-pass-requires-clause-others c =
+pub take_next-requires-clause-others : goal.take_next-requires-clause-others
+take_next-requires-clause-others c =
     let lists = c.self.inside.walks.items in
     let x = c.in_ok-head.field-0 in
     let known = heads_shuffled lists _ (x ∷ heap_items c.pop.new.self) c.in_ok-head.ensures.permutation c.self.invariant.known in
     head_goes lists x (heap_items c.pop.new.self) known
 
 -- the walk that is passed begins with the first packet of all
-least : (c : goal.After-pass) → BeginsAt c.self.inside.walks.items c.in_ok-head.field-0.0.place
+least : (c : goal.After-take_next) → BeginsAt c.self.inside.walks.items c.in_ok-head.field-0.0.place
 least c =
     let lists = c.self.inside.walks.items in
     let heads = heap_items c.self.inside.heads in
@@ -49,15 +49,15 @@ least c =
     let known = heads_shuffled lists heads (x ∷ heap_items c.pop.new.self) c.in_ok-head.ensures.permutation c.self.invariant.known in
     begins_at lists x heads c.self.invariant.known known.each.0 (c.in_ok-head.ensures.heap_order c.self.invariant.heap).1
 
-list_is : (c : goal.After-pass) → get_or c.self.inside.walks.items c.in_ok-head.field-0.0.place [] ≡ (least c).slot ∷ (least c).rest
+list_is : (c : goal.After-take_next) → get_or c.self.inside.walks.items c.in_ok-head.field-0.0.place [] ≡ (least c).slot ∷ (least c).rest
 list_is c =
     get_or_from_slice_get c.self.inside.walks.items c.in_ok-head.field-0.0.place ((least c).slot ∷ (least c).rest) [] (least c).there
 
-walks_are : (c : goal.After-pass) → c.pass.new.walks.items ≡ set c.self.inside.walks.items c.in_ok-head.field-0.0.place (least c).rest
+walks_are : (c : goal.After-take_next) → c.take_next.new.walks.items ≡ set c.self.inside.walks.items c.in_ok-head.field-0.0.place (least c).rest
 walks_are c =
-    c.pass.ensures.walks ∙ ap (λ (l : List Slot). set c.self.inside.walks.items c.in_ok-head.field-0.0.place (drop 1 l)) (list_is c)
+    c.take_next.ensures.walks ∙ ap (λ (l : List Slot). set c.self.inside.walks.items c.in_ok-head.field-0.0.place (drop 1 l)) (list_is c)
 
-now_is : (c : goal.After-pass)
+now_is : (c : goal.After-take_next)
     → c.args.self.now ≡ (least c).slot ∷ ordered key_of (joined (set c.self.inside.walks.items c.in_ok-head.field-0.0.place (least c).rest))
 now_is c =
     sym c.self.view_is
@@ -74,13 +74,13 @@ invariant_of-self-2 c =
     record {
       rising = subst (AllByRecursion (IsRising key_of)) (sym (walks_are c)) (laws.rising lists place slot rest (least c).there c.self.invariant.rising);
       distinct = subst (λ (l : List (List Slot)). AreDistinct key_of (joined l)) (sym (walks_are c)) (laws.distinct lists place slot rest (least c).there c.self.invariant.distinct);
-      known = c.pass.ensures.known;
-      heap = c.pass.ensures.heap;
+      known = c.take_next.ensures.known;
+      heap = c.take_next.ensures.heap;
     }
 
 pub returns-clause-slot : goal.returns-clause-slot
 returns-clause-slot c =
-    c.pass.ensures.slot ∙ ap (λ (l : List Slot). slice_get l 0) (list_is c) ∙ sym (ap (λ (l : List Slot). slice_get l 0) (now_is c))
+    c.take_next.ensures.slot ∙ ap (λ (l : List Slot). slice_get l 0) (list_is c) ∙ sym (ap (λ (l : List Slot). slice_get l 0) (now_is c))
 
 pub returns-clause-rest : goal.returns-clause-rest
 returns-clause-rest c = ap (λ (l : List (List Slot)). ordered key_of (joined l)) (walks_are c) ∙ sym (ap (drop 1) (now_is c))

@@ -1,7 +1,7 @@
 -- One more record, with a stamp or without.
 use Rattle.std.proofs.Common.{◌+◌, length, sym, ap, subst}
 use Rattle.trex_stats.proofs.Standing.{stands_stamped, stands_plain}
-use Rattle.trex_stats.specs.Counts.{arrivals, with_one}
+use Rattle.trex_stats.specs.Counts.{arrivals}
 use Rattle.trex_stats.specs.Kept.{AreFlows}
 use Rattle.trex_stats.proofs.stats.Stats.add.Goals as goal
 use Rattle.trex_stats.proofs.stats.Stats.add.Goals.{in-Some+in_ok-arrive, in_default}
@@ -15,7 +15,7 @@ returns-clause-stands c rs stands = elim c.match-whole_stamp.branch [
       rw w.self-inside-is
       (stands_stamped c.args.self.now _ rs _ stands (ap (λ k. k.records + 1) c.self.view_is) (ap (λ k. k.bytes + length c.args.bytes.now) c.self.view_is)
       stamp (sym w.in-Some.ensures) (ap (λ k. k.stamped + 1) c.self.view_is)
-      (subst (λ n. AreFlows w.arrive.new.flows.entries (with_one (arrivals rs) stamp.flow (record { sequence = n; sent = stamp.time; came = c.args.time }))) w.from.ensures are))
+      are)
   | in_default w ↦
       rw w.self-inside-is
       (stands_plain c.args.self.now _ rs _ stands (ap (λ k. k.records + 1) c.self.view_is) (ap (λ k. k.bytes + length c.args.bytes.now) c.self.view_is)

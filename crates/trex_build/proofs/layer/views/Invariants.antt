@@ -1,6 +1,0 @@
-use Rattle.std.proofs.Common.{◌≡◌, map, take}
-use Rattle.trex_build.specs.Layer.{layer, layer_of}
-use Rattle.trex_build.proofs.layer.views.Given as goal
-
-abbrev pub invariant-loop-one : goal.invariant-loop-one
-invariant-loop-one l = map layer_of l.views.items ≡ map layer (take l.one-index l.layers)

@@ -1,0 +1,3 @@
+mod DraftLemmas
+pub mod PlainLemmas
+pub mod TextLemmas

@@ -1,0 +1,26 @@
+// The laws of an import.
+
+ghost use Rattle.std.specs.Prelude.{◌≡◌, ℕ, ◌^◌, ◌<◌, List, Ok, Some, decimal, IsUtf8};
+ghost use Rattle.base64.specs.Engines.{standard};
+ghost use Rattle.base64.specs.GeneralPurpose.{IsBytes, decoded_of, encode_of};
+ghost use Rattle.serde_json.specs.Read.{read};
+ghost use Rattle.trex_decimal.specs.Decimal.{scaled_of, whole_of};
+ghost use Rattle.trex_decimal.specs.Quoted.{quoted};
+ghost use Rattle.trex_import.specs.Document.{document};
+ghost use Rattle.trex_import.specs.Drafts.{HaveBytes};
+ghost use Rattle.trex_import.specs.Imported.{imported, microseconds};
+ghost use Rattle.trex_io.specs.Seen.{Seen};
+
+/// Law: the text that is written for the records of a capture is UTF-8, has no number token outside its JSON texts, and reads as its entries.
+pub fn imports_read_back()
+    ensures utf8 { (rs : List Seen) → HaveBytes rs → IsUtf8 (imported rs) }
+    ensures quoted { (rs : List Seen) → HaveBytes rs → quoted (imported rs) ≡ imported rs }
+    ensures reads { (rs : List Seen) → HaveBytes rs → read (imported rs) ≡ Some (document rs) }
+{}
+
+/// Law: the three texts of an entry say its gap in ns, its packet and its id.
+pub fn entries_read_back()
+    ensures gap { (ns : ℕ) → ns < 10 ^ 18 → scaled_of (microseconds ns) 3 ≡ Ok ns }
+    ensures packet { (bytes : List ℕ) → IsBytes bytes → decoded_of standard (encode_of standard bytes) ≡ Some bytes }
+    ensures id { (id : ℕ) → id < 2 ^ 64 → whole_of (decimal id) ≡ Some id }
+{}
