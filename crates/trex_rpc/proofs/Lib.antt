@@ -1,0 +1,5 @@
+mod FeedLemmas
+mod PieceLemmas
+mod HeardLemmas
+mod AlongLemmas
+mod TalkLemmas
