@@ -40,10 +40,7 @@ fn a_line_ends_with_its_numbers(rt: HostRuntime) -> Result<(), Fail> {
             Line::Unfit(Unfit::Backwards { number: 2 }),
             "unfit capture: Backwards record 2\n",
         ),
-        (
-            Line::Unfit(Unfit::TooLarge),
-            "unfit capture: TooLarge\n",
-        ),
+        (Line::Unfit(Unfit::TooLarge), "unfit capture: TooLarge\n"),
         (Line::Usage(missing), "usage: Missing option --seed\n"),
         (
             sample,
