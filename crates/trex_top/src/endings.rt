@@ -6,9 +6,10 @@ ghost use Rattle.trex_words.specs.declared.asked.Asked.{Asked as AnAsked};
 ghost use Rattle.trex_words.specs.declared.asked.RunAsk.{RunAsk as ARunAsk};
 ghost use Rattle.trex_words.specs.declared.asked.Usage.{Usage as AUsage};
 ghost use Rattle.trex_top.specs.declared.status.Status.{Status as AStatus};
-ghost use Rattle.trex_top.specs.Endings.{EntersGates, HasItsCause, IsAmong, IsBadCapture, IsRefused, LeavesOutput, Suits};
+ghost use Rattle.trex_top.specs.Endings.{EntersGates, HasItsCause, IsAmong, IsBadCapture, IsRefused, IsUnfitCapture, LeavesOutput, Suits};
 ghost use Rattle.trex_top.specs.Ends.{Ends};
 ghost use Rattle.trex_top.specs.Ends.Check.{CheckEnds};
+ghost use Rattle.trex_top.specs.Ends.Import.{ImportEnds};
 ghost use Rattle.trex_top.specs.Ends.Measured.{MeasuredEnds};
 ghost use Rattle.trex_top.specs.Ends.Run.{RunEnds};
 ghost use Rattle.trex_top.specs.Sides.{GateSide, Side, Failed, given};
@@ -41,6 +42,13 @@ pub fn endings_hold<S, O, N, G>()
     ensures measuring_refuses { (text : List Seen → List ℕ) (input : Side S) (out : Side O) (notes : Side N) (s : AStatus)
         → IsBadCapture (given input) → MeasuredEnds text input out notes s
         → IsAmong s (Status.BadCapture ∷ Status.ReadFault ∷ Status.Memory ∷ []) }
+    ensures import_refuses { (input : Side S) (out : Side O) (notes : Side N) (s : AStatus)
+        → IsBadCapture (given input) → ImportEnds input out notes s
+        → IsAmong s (Status.BadCapture ∷ Status.ReadFault ∷ Status.Memory ∷ []) }
+    // A capture that makes no profile is called unfit, unless the input fails or there is no memory.
+    ensures unfit_refuses { (input : Side S) (out : Side O) (notes : Side N) (s : AStatus)
+        → IsUnfitCapture (given input) → ImportEnds input out notes s
+        → IsAmong s (Status.Unfit ∷ Status.ReadFault ∷ Status.Memory ∷ []) }
     // Where the input is what is asked for and nothing fails, what is asked is done, unless there is no memory.
     ensures complete { (a : AnAsked) (input : Side S) (out : Side O) (notes : Side N) (gates : GateSide G) (s : AStatus)
         → Suits a (given input) → ¬ Failed input → ¬ Failed out → ¬ Failed notes → Ends (Ok a) input out notes gates s

@@ -19,4 +19,6 @@ pub enum Status {
     BadCapture = 7,
     /// There was no memory.
     Memory = 8,
+    /// The capture that was to be imported makes no profile.
+    Unfit = 9,
 }
