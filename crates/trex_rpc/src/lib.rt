@@ -21,3 +21,6 @@ pub use runner::Runner;
 pub use session::Session;
 pub use stop::{Stop, Unanswered};
 pub use talking::talk;
+
+#[cfg(test)]
+mod tests;
