@@ -11,7 +11,7 @@ use Rattle.trex_claims.specs.Moves.{PutBack, state_at, round_closed_if, round_cl
 use Rattle.trex_claims.proofs.TotalLemmas.{set_twice}
 use Rattle.trex_claims.proofs.RoundEnds.{length_after}
 use Rattle.trex_claims.proofs.Puts.{puts_back}
-use Rattle.trex_claims.proofs.SlotLemmas.{takes_slot, returns_slot, closed_slot}
+use Rattle.trex_claims.proofs.SlotLemmas.{takes_slot, returns_slot}
 
 pub same_core : (c : ℕ) → c + 1 - 1 ≡ c
 same_core c = omega arith

@@ -38,7 +38,8 @@ fn work_first<R: Threads + Sync, T: Piece, G: Gate>(
     work(site.board, seat, &mut gates[0], site.base, site.round);
 }
 
-/// A worker for each of the gates. The first seat works at the last one, and a seat is split off it for each other.
+/// A worker for each of the gates: a seat is split off for the first gate, and this one, with the seats that are split off after it, works
+/// at the rest.
 #[cycle(workers)]
 pub(crate) fn work_by_gates<R: Threads + Sync, T: Piece, G: Gate>(
     site: &Site<'_, R, T>,
@@ -58,38 +59,13 @@ pub(crate) fn work_by_gates<R: Threads + Sync, T: Piece, G: Gate>(
         work_first(site, seat, gates);
     } else {
         let mut other = site.board.split(seat).unwrap();
-        work_with_other(site, seat, &mut other, gates);
+        let (left, right) = gates.split_at_mut(1);
+        work_in_threads(site, seat, &mut other, left, right);
         site.board.join(seat, other);
     }
 }
 
-/// The other seat works at the first of the gates, and this one, with further seats, at the rest.
-#[cycle(workers)]
-fn work_with_other<R: Threads + Sync, T: Piece, G: Gate>(
-    site: &Site<'_, R, T>,
-    seat: &mut Seat<T>,
-    other: &mut Seat<T>,
-    gates: &mut [G],
-)
-    requires board { seat.old.table_id ≡ board_id site.now.board.now }
-    requires other_board { other.old.table_id ≡ board_id site.now.board.now }
-    requires first { IsFirst seat.old.me.0.role }
-    requires ready { MayDraw site.now.base seat.old.me }
-    requires other_ready { MayDraw site.now.base other.old.me }
-    requires some { 2 ≤ length gates.old }
-    requires seats_left { length gates.old ≤ seat.old.me.0.seats_left + 2 }
-    requires new { other.old.me.0.done ≡ [] }
-    ensures board { seat.new.table_id ≡ seat.old.table_id }
-    ensures other_board { other.new.table_id ≡ other.old.table_id }
-    ensures drawn { HasDrawn seat.old.me seat.new.me }
-    ensures other_drawn { HasDrawn other.old.me other.new.me }
-    ensures gates { Worked G.entries site.now.round gates.old gates.new seat.old.me.0.done (other.new.me.0.done ++ seat.new.me.0.done) }
-{
-    let (left, right) = gates.split_at_mut(1);
-    work_in_threads(site, seat, other, left, right);
-}
-
-/// The two seats work at their parts of the gates, each in a thread of its own.
+/// Each of the two seats works at its part of the gates, in a thread of its own.
 #[cycle(workers)]
 fn work_in_threads<R: Threads + Sync, T: Piece, G: Gate>(
     site: &Site<'_, R, T>,

@@ -1,4 +1,4 @@
 pub mod PseudoLemmas
 mod Sums
 mod Lengths
-mod Verifying
+mod VerifiedHeaders

@@ -82,7 +82,7 @@ fn long_capture(alloc: Global, last: u32) -> Result<Vec<u8>, Fail> {
     Ok(capture)
 }
 
-// The lengths and the digest were worked out by a program of its own in Python: the last entry's gap is 999.999 or 1000.000.
+/// The lengths and the digest were worked out by a program of its own in Python: the last entry's gap is 999.999 or 1000.000.
 #[test]
 fn a_text_of_33554432_bytes_is_the_longest(rt: HostRuntime) -> Result<(), Fail> {
     let alloc = rt.alloc();

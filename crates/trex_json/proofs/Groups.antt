@@ -1,7 +1,7 @@
 -- The groups of rules, and the one list that they make.
 use Rattle.std.proofs.Common.{◌≡◌, ◌||◌, ◌&&◌, nat_lt, if◌then◌else◌, Bool, true, false, Option, None, List, [], ◌∷◌, ◌++◌, length, is_none, refl, ◌∙◌}
 use Rattle.serde_json.specs.Data.{Data}
-use Rattle.trex_build.specs.Built.{too_long}
+use Rattle.trex_headers.specs.Built.{too_long}
 use Rattle.trex_profile.specs.declared.refusal.Breach.{Breach}
 use Rattle.trex_profile.specs.declared.rule.Rule.TheVariants.{BadEntry, BadStreamId, BadStream, BadEnabled, BadSelfStart, BadIsg, BadNext, BadActionCount, BadSeed, BadPacket, BadBinary, BadLayer, LayersTooLong, BadMode, BadRate, BadCount, BadIbg, BadFlowStats, BadVm, TooManyInstructions}
 use Rattle.trex_profile.specs.Order.{first, first_each}

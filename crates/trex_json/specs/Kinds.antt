@@ -11,16 +11,17 @@ use Rattle.trex_profile.specs.declared.raw.RateKind.{RateKind}
 use Rattle.trex_profile.specs.declared.raw.RateKind.TheVariants.{Pps, BpsL1, BpsL2}
 use Rattle.trex_profile.specs.declared.raw.RawPlace.{RawPlace}
 use Rattle.trex_profile.specs.declared.raw.RawPlace.TheVariants.{At, Named}
+use Rattle.trex_ipv6.specs.Address.{address6_of}
 use Rattle.trex_stamp.specs.declared.header.Version.{Version}
 use Rattle.trex_stamp.specs.declared.header.Version.TheVariants.{One, Two}
 use Rattle.trex_vars.specs.declared.spec.Op.{Op}
 use Rattle.trex_vars.specs.declared.spec.Op.TheVariants.{Inc, Dec, Random}
 use Rattle.trex_json.specs.declared.kinds.InstrWord.{InstrWord}
-use Rattle.trex_json.specs.declared.kinds.InstrWord.TheVariants.{FlowVar, RandLimit, Tuple, Write, WriteMask, FixIpv4, FixHw, Trim}
+use Rattle.trex_json.specs.declared.kinds.InstrWord.TheVariants.{FlowVar, RandLimit, Tuple, Write, WriteMask, FixIpv4, FixHw, FixIpv6, Trim}
 use Rattle.trex_json.specs.declared.kinds.ModeWord.{ModeWord}
 use Rattle.trex_json.specs.declared.kinds.ModeWord.TheVariants.{Continuous, SingleBurst, MultiBurst}
 use Rattle.trex_json.specs.declared.kinds.LayerWord.{LayerWord}
-use Rattle.trex_json.specs.declared.kinds.LayerWord.TheVariants.{Ethernet, Vlan, Ipv4, Tcp, Udp, Raw}
+use Rattle.trex_json.specs.declared.kinds.LayerWord.TheVariants.{Ethernet, Vlan, Ipv4, Ipv6, Tcp, Udp, Raw}
 use Rattle.trex_json.specs.Addresses.{mac_of, address_of}
 use Rattle.trex_json.specs.Json.{list_of}
 
@@ -130,6 +131,10 @@ a_size d = option_and_then (one_of (1 ∷ 2 ∷ 4 ∷ 8 ∷ [])) (whole 8 d)
 abbrev pub l4_code : Data → Option ℕ
 l4_code d = option_and_then (one_of (11 ∷ 13 ∷ 17 ∷ [])) (whole 17 d)
 
+-- what stands behind an IPv6 header: 11 for UDP, 13 for TCP
+abbrev pub l4_code6 : Data → Option ℕ
+l4_code6 d = option_and_then (one_of (11 ∷ 13 ∷ [])) (whole 13 d)
+
 -- a signed number
 abbrev pub a_signed : Data → Option ℤ
 a_signed d = option_and_then signed_of (as_str d)
@@ -174,6 +179,7 @@ instr_of_word word =
     else if bytes_eq word (codes "write_mask_flow_var") then Some WriteMask
     else if bytes_eq word (codes "fix_checksum_ipv4") then Some FixIpv4
     else if bytes_eq word (codes "fix_checksum_hw") then Some FixHw
+    else if bytes_eq word (codes "fix_checksum_ipv6") then Some FixIpv6
     else if bytes_eq word (codes "trim_pkt_size") then Some Trim
     else None
 
@@ -186,6 +192,7 @@ layer_of_word word =
     if bytes_eq word (codes "Ethernet") then Some Ethernet
     else if bytes_eq word (codes "Vlan") then Some Vlan
     else if bytes_eq word (codes "Ipv4") then Some Ipv4
+    else if bytes_eq word (codes "Ipv6") then Some Ipv6
     else if bytes_eq word (codes "Tcp") then Some Tcp
     else if bytes_eq word (codes "Udp") then Some Udp
     else if bytes_eq word (codes "Raw") then Some Raw
@@ -201,3 +208,7 @@ a_mac d = option_and_then mac_of (as_str d)
 -- an IPv4 address
 abbrev pub an_address : Data → Option ℕ
 an_address d = option_and_then address_of (as_str d)
+
+-- an IPv6 address
+abbrev pub an_address6 : Data → Option (List ℕ)
+an_address6 d = option_and_then address6_of (as_str d)

@@ -4,6 +4,7 @@ pub mod Kinds
 pub mod Names
 pub mod Rows
 pub mod Operands
+pub mod Layer
 pub mod Layers
 pub mod Shape
 pub mod Order

@@ -4,12 +4,12 @@ use Rattle.serde_json.specs.Data.{Data}
 use Rattle.trex_profile.specs.declared.raw.RawPlace.{RawPlace}
 use Rattle.trex_profile.specs.declared.refusal.Breach.{Breach}
 use Rattle.trex_profile.specs.declared.rule.Rule.TheVariants.{BadInstruction, BadOperand}
-use Rattle.trex_profile.specs.Instruction.{Instruction, FlowVar, ListVar, RandLimit, Tuple, Write, WriteMask, FixIpv4, FixHw, Trim}
+use Rattle.trex_profile.specs.Instruction.{Instruction, FlowVar, ListVar, RandLimit, Tuple, Write, WriteMask, FixIpv4, FixHw, FixL6, Trim}
 use Rattle.trex_profile.specs.Order.{first}
 use Rattle.trex_profile.specs.Refusal.{rule_there}
 use Rattle.trex_json.specs.declared.instr.Numbers.{Numbers}
 use Rattle.trex_json.specs.declared.kinds.InstrWord.{InstrWord}
-use Rattle.trex_json.specs.declared.kinds.InstrWord.TheVariants.{FlowVar as FlowVarWord, RandLimit as RandLimitWord, Tuple as TupleWord, Write as WriteWord, WriteMask as WriteMaskWord, FixIpv4 as FixIpv4Word, FixHw as FixHwWord, Trim as TrimWord}
+use Rattle.trex_json.specs.declared.kinds.InstrWord.TheVariants.{FlowVar as FlowVarWord, RandLimit as RandLimitWord, Tuple as TupleWord, Write as WriteWord, WriteMask as WriteMaskWord, FixIpv4 as FixIpv4Word, FixHw as FixHwWord, FixIpv6 as FixIpv6Word, Trim as TrimWord}
 use Rattle.trex_json.specs.Kinds.{an_object}
 use Rattle.trex_json.specs.Names.{wrong, value}
 use Rattle.trex_json.specs.Rows as row
@@ -90,6 +90,14 @@ fix_hw_wrong d = wrong row.l2_len d || wrong row.l3_len d || wrong row.l4_type d
 abbrev pub fix_hw : Data → Instruction
 fix_hw d = FixHw (value row.l2_len d) (value row.l3_len d) (value row.l4_type d)
 
+-- the operands of the fix of what stands behind an IPv6 header are wrong
+unfoldable pub fix_ipv6_wrong : Data → Bool
+fix_ipv6_wrong d = wrong row.l2_len d || wrong row.l4_type6 d
+
+-- the fix of what stands behind an IPv6 header
+abbrev pub fix_ipv6 : Data → Instruction
+fix_ipv6 d = FixL6 (value row.l2_len d) (value row.l4_type6 d)
+
 -- an operand of an instruction of that word is missing or not of its kind, in a stream of that seed
 abbrev pub operands_wrong : ℕ → InstrWord → Data → Bool
 operands_wrong seed FlowVarWord d = wrong row.name d || wrong row.value_list d || flow_var_wrong d
@@ -99,6 +107,7 @@ operands_wrong seed WriteWord d = wrong row.name d || wrong row.write_offset d |
 operands_wrong seed WriteMaskWord d = wrong row.name d || wrong row.write_offset d || write_mask_wrong d
 operands_wrong seed FixIpv4Word d = wrong row.fix_offset d
 operands_wrong seed FixHwWord d = fix_hw_wrong d
+operands_wrong seed FixIpv6Word d = fix_ipv6_wrong d
 operands_wrong seed TrimWord d = wrong row.name d
 
 -- the instruction of that word, its defaults filled in
@@ -110,6 +119,7 @@ instruction_by seed WriteWord d = write (value row.name d) (value row.write_offs
 instruction_by seed WriteMaskWord d = write_mask (value row.name d) (value row.write_offset d) d
 instruction_by seed FixIpv4Word d = FixIpv4 (value row.fix_offset d)
 instruction_by seed FixHwWord d = fix_hw d
+instruction_by seed FixIpv6Word d = fix_ipv6 d
 instruction_by seed TrimWord d = Trim (value row.name d)
 
 -- the rules on the instruction at a place

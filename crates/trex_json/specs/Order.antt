@@ -1,7 +1,7 @@
 -- The rules on the shape of one entry, one a line, in the order in which they are looked at (own).
 use Rattle.std.specs.Prelude.{◌||◌, ◌&&◌, nat_lt, if◌then◌else◌, List, [], ◌∷◌, length, Option, None, is_none}
 use Rattle.serde_json.specs.Data.{Data}
-use Rattle.trex_build.specs.Built.{too_long}
+use Rattle.trex_headers.specs.Built.{too_long}
 use Rattle.trex_profile.specs.declared.refusal.Breach.{Breach}
 use Rattle.trex_profile.specs.declared.rule.Rule.TheVariants.{BadEntry, BadStreamId, BadStream, BadEnabled, BadSelfStart, BadIsg, BadNext, BadActionCount, BadSeed, BadPacket, BadBinary, BadLayer, LayersTooLong, BadMode, BadRate, BadCount, BadIbg, BadFlowStats, BadVm, TooManyInstructions}
 use Rattle.trex_profile.specs.Order.{first_each}

@@ -18,7 +18,7 @@ use Rattle.trex_json.specs.declared.kinds.ModeWord.{ModeWord}
 use Rattle.trex_json.specs.declared.kinds.ModeWord.TheVariants.{Continuous}
 use Rattle.trex_json.specs.declared.kinds.LayerWord.{LayerWord}
 use Rattle.trex_json.specs.declared.kinds.LayerWord.TheVariants.{Raw}
-use Rattle.trex_json.specs.Kinds.{an_object, an_array, whole, scaled, decimal, next_id, mode_word, rate_kind, latency_word, a_version, bytes, values, a_size, l4_code, a_signed, a_shift, a_place, an_op, instr_word, layer_word, a_mac, an_address}
+use Rattle.trex_json.specs.Kinds.{an_object, an_array, whole, scaled, decimal, next_id, mode_word, rate_kind, latency_word, a_version, bytes, values, a_size, l4_code, l4_code6, a_signed, a_shift, a_place, an_op, instr_word, layer_word, a_mac, an_address, an_address6}
 use Rattle.trex_json.specs.Names.{Row, optional, required}
 
 -- the names of an entry
@@ -200,6 +200,9 @@ l3_len = required (codes "l3_len") (whole (2 ^ 64 - 1)) 0
 abbrev pub l4_type : Row ℕ
 l4_type = required (codes "l4_type") l4_code 17
 
+abbrev pub l4_type6 : Row ℕ
+l4_type6 = required (codes "l4_type") l4_code6 11
+
 -- the word of a layer
 abbrev pub layer_type : Row LayerWord
 layer_type = required (codes "type") layer_word Raw
@@ -237,6 +240,25 @@ ttl = optional (codes "ttl") (whole 255) 64
 
 abbrev pub proto : Row ℕ
 proto = optional (codes "proto") (whole 255) 253
+
+abbrev pub class : Row ℕ
+class = optional (codes "class") (whole 255) 0
+
+abbrev pub label : Row ℕ
+label = optional (codes "label") (whole 1048575) 0
+
+abbrev pub hop : Row ℕ
+hop = optional (codes "hop") (whole 255) 64
+
+-- the next header: 59 says that none follows (RFC 8200, section 4.7)
+abbrev pub next_header : Row ℕ
+next_header = optional (codes "next") (whole 255) 59
+
+abbrev pub ip6_src : Row (List ℕ)
+ip6_src = required (codes "src") an_address6 []
+
+abbrev pub ip6_dst : Row (List ℕ)
+ip6_dst = required (codes "dst") an_address6 []
 
 abbrev pub sport : Row ℕ
 sport = required (codes "sport") (whole 65535) 0

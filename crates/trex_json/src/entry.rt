@@ -29,10 +29,7 @@ fn entry_of(alloc: Global, entry: &Value) -> Result<RawStream, StreamFault>
 }
 
 /// The streams of the entries, in order.
-pub(crate) fn each_entry(
-    alloc: Global,
-    entries: &[Value],
-) -> Result<Vec<RawStream>, Fault<Refusal>>
+pub(crate) fn each_entry(alloc: Global, entries: &[Value]) -> Result<Vec<RawStream>, Fault<Refusal>>
     requires { length entries.now ≤ 4096 }
     ensures value { Gives (λ streams. map raw_stream streams.items) result
         (unless (first_each shape_refusal 0 (map view entries.now)) (map entry_stream (map view entries.now))) }

@@ -8,14 +8,14 @@ ghost use Rattle.trex_profile.specs.Instruction.{instruction, IsRawInstr, FixIpv
 ghost use Rattle.trex_profile.specs.Order.{first_each, unless};
 ghost use Rattle.trex_json.specs.Kinds.{place_of_text};
 ghost use Rattle.trex_json.specs.Names.{row_value};
-ghost use Rattle.trex_json.specs.Operands.{numbers_wrong, numbers, flow_var_wrong, flow_var, rand_limit_wrong, rand_limit, tuple_wrong, tuple, write_wrong, write, write_mask_wrong, write_mask, fix_hw_wrong, fix_hw, operands_wrong, instruction_by, instr_rules, instruction_of};
+ghost use Rattle.trex_json.specs.Operands.{numbers_wrong, numbers, flow_var_wrong, flow_var, rand_limit_wrong, rand_limit, tuple_wrong, tuple, write_wrong, write, write_mask_wrong, write_mask, fix_hw_wrong, fix_hw, fix_ipv6_wrong, fix_ipv6, operands_wrong, instruction_by, instr_rules, instruction_of};
 ghost use Rattle.trex_json.specs.Rows as row;
 
 use crate::binary::values_field;
 use crate::kinds::{InstrWord, an_object};
 use crate::names::{
-    bool_field, instr_field, l4_code_field, op_field, shift_field, signed_field, size_field, text_field,
-    whole_field,
+    bool_field, instr_field, l4_code_field, l4_code6_field, op_field, shift_field, signed_field,
+    size_field, text_field, whole_field,
 };
 use serde_json::Value;
 use std::alloc::Global;
@@ -230,6 +230,17 @@ fn fix_hw(item: &Value) -> Option<RawInstr>
     Some(RawInstr::FixHw { l2, l3, l4 })
 }
 
+/// The fix of what stands behind an IPv6 header.
+#[tactic(auto, unfolding(crate::specs::Operands::fix_ipv6_wrong))]
+fn fix_ipv6(item: &Value) -> Option<RawInstr>
+    ensures value { option_map instruction result ≡ (if fix_ipv6_wrong (view item.now) then None else Some (fix_ipv6 (view item.now))) }
+    ensures range { IfSome result (λ instr. IsRawInstr (instruction instr)) }
+{
+    let l2 = whole_field(item, "l2_len", u64::MAX, None)?;
+    let l4 = l4_code6_field(item, "l4_type")?;
+    Some(RawInstr::FixL6 { l2, l4 })
+}
+
 /// The fix of an IPv4 header.
 fn fix_ipv4(item: &Value) -> Option<RawInstr>
     ensures value { option_map instruction result ≡ option_map FixIpv4 (row_value row.fix_offset (view item.now)) }
@@ -253,6 +264,7 @@ fn instr_by(
     match word {
         InstrWord::FixIpv4 => return Ok(fix_ipv4(item)),
         InstrWord::FixHw => return Ok(fix_hw(item)),
+        InstrWord::FixIpv6 => return Ok(fix_ipv6(item)),
         _ => {}
     }
     let Some(name) = name_field(alloc, item)? else {

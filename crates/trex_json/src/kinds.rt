@@ -4,10 +4,11 @@ ghost use Rattle.std.specs.Prelude.{◌≡◌, ◌⊎◌, ◌≤◌, ◌<◌, �
 ghost use Rattle.std.specs.Option.{ForSome};
 ghost use Rattle.serde_json.specs.View.{view};
 ghost use Rattle.trex_fields.specs.Bytes.{IsSize};
-ghost use Rattle.trex_json.specs.Kinds.{an_object, an_array, whole, scaled, decimal, id_of, next_id, mode_word, rate_kind, latency_word, a_version, a_size, l4_code, a_signed, shift_of, a_shift, an_op, instr_word, layer_word, a_mac, an_address};
+ghost use Rattle.trex_json.specs.Kinds.{an_object, an_array, whole, scaled, decimal, id_of, next_id, mode_word, rate_kind, latency_word, a_version, a_size, l4_code, l4_code6, a_signed, shift_of, a_shift, an_op, instr_word, layer_word, a_mac, an_address, an_address6};
 
 use crate::addresses::{address_of, mac_of};
 use serde_json::Value;
+use trex_ipv6::address6_of;
 use trex_profile::RateKind;
 use trex_stamp::Version;
 use trex_vars::Op;
@@ -30,6 +31,7 @@ pub(crate) enum InstrWord {
     WriteMask,
     FixIpv4,
     FixHw,
+    FixIpv6,
     Trim,
 }
 
@@ -39,6 +41,7 @@ pub(crate) enum LayerWord {
     Ethernet,
     Vlan,
     Ipv4,
+    Ipv6,
     Tcp,
     Udp,
     Raw,
@@ -188,6 +191,19 @@ pub(crate) fn l4_code(value: &Value) -> Option<u8>
     }
 }
 
+/// What stands behind an IPv6 header: 11 or 13.
+pub(crate) fn l4_code6(value: &Value) -> Option<u8>
+    ensures value { result ≡ l4_code6 (view value.now) }
+    ensures within { IfSome result (λ n. (n ≡ 11) ⊎ (n ≡ 13)) }
+{
+    let n = whole(value, 13)?;
+    if matches!(n, 11 | 13) {
+        Some(n as u8)
+    } else {
+        None
+    }
+}
+
 /// A signed number.
 pub(crate) fn a_signed(value: &Value) -> Option<i64>
     ensures { result ≡ a_signed (view value.now) }
@@ -238,6 +254,7 @@ pub(crate) fn instr_word(value: &Value) -> Option<InstrWord>
         "write_mask_flow_var" => Some(InstrWord::WriteMask),
         "fix_checksum_ipv4" => Some(InstrWord::FixIpv4),
         "fix_checksum_hw" => Some(InstrWord::FixHw),
+        "fix_checksum_ipv6" => Some(InstrWord::FixIpv6),
         "trim_pkt_size" => Some(InstrWord::Trim),
         _ => None,
     }
@@ -251,6 +268,7 @@ pub(crate) fn layer_word(value: &Value) -> Option<LayerWord>
         "Ethernet" => Some(LayerWord::Ethernet),
         "Vlan" => Some(LayerWord::Vlan),
         "Ipv4" => Some(LayerWord::Ipv4),
+        "Ipv6" => Some(LayerWord::Ipv6),
         "Tcp" => Some(LayerWord::Tcp),
         "Udp" => Some(LayerWord::Udp),
         "Raw" => Some(LayerWord::Raw),
@@ -270,4 +288,11 @@ pub(crate) fn an_address(value: &Value) -> Option<u32>
     ensures { result ≡ an_address (view value.now) }
 {
     address_of(value.as_str()?)
+}
+
+/// An IPv6 address.
+pub(crate) fn an_address6(value: &Value) -> Option<[u8; 16]>
+    ensures { result ≡ an_address6 (view value.now) }
+{
+    address6_of(value.as_str()?)
 }

@@ -8,6 +8,7 @@ mod entry_id;
 mod flow;
 mod instr;
 mod kinds;
+mod layer;
 mod layers;
 mod mode;
 mod names;

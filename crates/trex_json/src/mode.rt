@@ -11,7 +11,9 @@ ghost use Rattle.trex_json.specs.Rows as row;
 ghost use Rattle.trex_json.specs.Shape.{rate_wrong, rate, count_rules, counted, mode_rules, word_of};
 
 use crate::kinds::ModeWord;
-use crate::names::{gap_field, millionths_field, mode_field, object_field, rate_field, whole_field};
+use crate::names::{
+    gap_field, millionths_field, mode_field, object_field, rate_field, whole_field,
+};
 use serde_json::Value;
 use trex_profile::{RawRate, Rule, StreamFault};
 use trex_sched::Mode;

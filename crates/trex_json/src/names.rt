@@ -5,7 +5,7 @@ ghost use Rattle.std.specs.Option.{ForSome};
 ghost use Rattle.serde_json.specs.View.{view};
 ghost use Rattle.serde_json.specs.Find.{as_bool, as_str};
 ghost use Rattle.trex_fields.specs.Bytes.{IsSize};
-ghost use Rattle.trex_json.specs.Kinds.{an_object, an_array, whole, scaled, decimal, next_id, mode_word, rate_kind, latency_word, a_version, a_size, l4_code, a_signed, a_shift, an_op, instr_word, layer_word, a_mac, an_address};
+ghost use Rattle.trex_json.specs.Kinds.{an_object, an_array, whole, scaled, decimal, next_id, mode_word, rate_kind, latency_word, a_version, a_size, l4_code, l4_code6, a_signed, a_shift, an_op, instr_word, layer_word, a_mac, an_address, an_address6};
 ghost use Rattle.trex_json.specs.Names.{field, under};
 
 use crate::kinds::{self, InstrWord, LayerWord, ModeWord};
@@ -142,6 +142,14 @@ pub(crate) fn l4_code_field(object: &Value, name: &str) -> Option<u8>
     kinds::l4_code(under(object, name)?)
 }
 
+/// What stands behind an IPv6 header, under a name: 11 or 13.
+pub(crate) fn l4_code6_field(object: &Value, name: &str) -> Option<u8>
+    ensures value { result ≡ field name.now l4_code6 None (view object.now) }
+    ensures within { IfSome result (λ n. (n ≡ 11) ⊎ (n ≡ 13)) }
+{
+    kinds::l4_code6(under(object, name)?)
+}
+
 /// The signed number under a name, or 0.
 pub(crate) fn signed_field(object: &Value, name: &str) -> Option<i64>
     ensures { result ≡ field name.now a_signed (Some (pos 0)) (view object.now) }
@@ -196,6 +204,13 @@ pub(crate) fn address_field(object: &Value, name: &str) -> Option<u32>
     ensures { result ≡ field name.now an_address None (view object.now) }
 {
     kinds::an_address(under(object, name)?)
+}
+
+/// The IPv6 address under a name.
+pub(crate) fn address6_field(object: &Value, name: &str) -> Option<[u8; 16]>
+    ensures { result ≡ field name.now an_address6 None (view object.now) }
+{
+    kinds::an_address6(under(object, name)?)
 }
 
 /// The array under a name.

@@ -39,10 +39,7 @@ fn each_header_is_there_from_its_last_byte_on(rt: HostRuntime) {
     packet[31] = 6;
     for &(len, tags, ip, l4, rest) in &CUTS {
         assert!(rt; len <= 62);
-        assert_eq!(rt;
-            parse(&packet[..len]),
-            behind_ethernet(tags, ip, l4, rest)
-        );
+        assert_eq!(rt; parse(&packet[..len]), behind_ethernet(tags, ip, l4, rest));
     }
     let none = Layers {
         ethernet: false,
@@ -67,10 +64,7 @@ fn udp_stands_behind_the_options_of_ipv4(rt: HostRuntime) {
     });
     let udp = Some(L4Place::Udp { at: 38 });
     assert_eq!(rt; parse(&packet), behind_ethernet(0, ip, udp, 46));
-    assert_eq!(rt;
-        parse(&packet[..45]),
-        behind_ethernet(0, ip, None, 38)
-    );
+    assert_eq!(rt; parse(&packet[..45]), behind_ethernet(0, ip, None, 38));
     packet[14] = 0x44;
     assert_eq!(rt; ipv4_at(&packet, 14), None);
 }

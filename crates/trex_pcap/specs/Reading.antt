@@ -17,7 +17,7 @@ format_in big bytes =
     else if number_at big 4 0 bytes == 0xa1b2c3d4 then Some (record { big = big; micro = true })
     else None
 
--- the first that is there
+-- the first of two formats, where it is there, else the second
 abbrev pub first_of : Option Format → Option Format → Option Format
 first_of (Some f) other = Some f
 first_of None other = other
@@ -46,16 +46,19 @@ begin bytes = if nat_lt (length bytes) 24 then Err (Torn 0) else opening (take 2
 abbrev pub fractions : Format → ℕ
 fractions f = if f.micro then 10 ^ 6 else 10 ^ 9
 
--- the fields of a record header (pcap 2.4, packet record): seconds, fraction, captured and original length
+-- the seconds of a record header (pcap 2.4, packet record)
 abbrev pub seconds_in : Format → List ℕ → ℕ
 seconds_in f header = number_at f.big 4 0 header
 
+-- the fraction of a second in a record header
 abbrev pub fraction_in : Format → List ℕ → ℕ
 fraction_in f header = number_at f.big 4 4 header
 
+-- how many captured bytes follow a record header
 abbrev pub captured_in : Format → List ℕ → ℕ
 captured_in f header = number_at f.big 4 8 header
 
+-- how many bytes the packet of a record header had
 abbrev pub original_in : Format → List ℕ → ℕ
 original_in f header = number_at f.big 4 12 header
 

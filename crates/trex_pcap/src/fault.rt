@@ -1,3 +1,5 @@
+// What can be wrong with a capture that is read.
+
 use thiserror::Error;
 
 /// What is wrong with a capture, and at which record; records are counted from 1.

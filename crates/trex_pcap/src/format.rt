@@ -1,3 +1,5 @@
+// What a magic number says of a capture.
+
 /// How a capture spells its numbers, as its magic number says.
 #[derive(Clone, Copy, Debug, PartialEq, Eq, Drop)]
 pub struct Format {

@@ -1,3 +1,5 @@
+// What the bytes of a file header and of a record header say (pcap 2.4).
+
 ghost use Rattle.std.specs.Prelude.{◌≡◌, ◌+◌, ◌*◌, ◌^◌, ◌<◌, ◌≤◌, if◌then◌else◌, length, IfOk, IfErr};
 ghost use Rattle.trex_pcap.specs.Following.{IsOfCapture, ReadsHead};
 ghost use Rattle.trex_pcap.specs.Reading.{format_in, fractions, number_at, opening};
@@ -17,14 +19,14 @@ pub(crate) const FILE_HEADER: usize = 24;
 /// The length of a record header in bytes.
 pub(crate) const RECORD_HEADER: usize = 16;
 
-// The magic number of a capture whose fractions of a second are microseconds.
+/// The magic number of a capture whose fractions of a second are microseconds.
 const MAGIC_MICROSECONDS: u32 = 0xA1B2_C3D4;
 
 const MICROSECONDS_PER_SECOND: u64 = 1_000_000;
 
 const NANOSECONDS_PER_MICROSECOND: u64 = 1_000;
 
-// The number in the two bytes from a place on.
+/// The number in the two bytes from a place on, in the byte order of the capture.
 #[tactic(auto, unfolding(crate::specs::Reading::number_at))]
 fn two_at(big: bool, bytes: &[u8], at: usize) -> u16
     requires { at + 2 ≤ length bytes.now }
@@ -37,7 +39,7 @@ fn two_at(big: bool, bytes: &[u8], at: usize) -> u16
     }
 }
 
-// The number in the four bytes from a place on.
+/// The number in the four bytes from a place on, in the byte order of the capture.
 #[tactic(auto, unfolding(crate::specs::Reading::number_at))]
 fn four_at(big: bool, bytes: &[u8], at: usize) -> u32
     requires { at + 4 ≤ length bytes.now }
@@ -50,7 +52,7 @@ fn four_at(big: bool, bytes: &[u8], at: usize) -> u32
     }
 }
 
-// The format that the first four bytes name in this byte order.
+/// The format that the first four bytes of a file header name in a byte order. None where they are no magic number in it.
 fn format_in(big: bool, header: &[u8]) -> Option<Format>
     requires { 4 ≤ length header.now }
     ensures { result ≡ format_in big header.now }
@@ -62,7 +64,7 @@ fn format_in(big: bool, header: &[u8]) -> Option<Format>
     }
 }
 
-// What the bytes of a file header say.
+/// The format that a file header names, or what is wrong with the header.
 #[tactic(auto, unfolding(crate::specs::Reading::opening))]
 pub(crate) fn open(header: &[u8]) -> Result<Format, CaptureFault>
     requires { length header.now ≡ 24 }
@@ -82,7 +84,7 @@ pub(crate) fn open(header: &[u8]) -> Result<Format, CaptureFault>
     Ok(format)
 }
 
-// How many of a record's fractions make a second.
+/// How many of a record's fractions make a second.
 fn fractions(format: Format) -> u64
     ensures { result ≡ fractions format }
 {
@@ -93,7 +95,7 @@ fn fractions(format: Format) -> u64
     }
 }
 
-// A record's time in ns.
+/// A record's time, in nanoseconds since 1970.
 fn time_of(format: Format, seconds: u32, fraction: u32) -> u64
     ensures { result ≡ seconds * 10 ^ 9 + (if format.micro then fraction * 1000 else fraction) }
 {
@@ -105,7 +107,7 @@ fn time_of(format: Format, seconds: u32, fraction: u32) -> u64
     u64::from(seconds) * NANOSECONDS_PER_SECOND + u64::from(fraction) * scale
 }
 
-// What the header of this record says.
+/// What the header of record `number` says, or what is wrong with it.
 #[tactic(auto, unfolding(crate::specs::Reading::head_fault))]
 pub(crate) fn read_head(format: Format, number: u64, header: &[u8]) -> Result<Record, CaptureFault>
     requires { length header.now ≡ 16 }

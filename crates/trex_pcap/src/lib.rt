@@ -1,4 +1,4 @@
-// The classic pcap capture format, version 2.4: the writer's nanosecond records, and a reader of both kinds in both byte orders.
+//! The classic pcap capture format, version 2.4: the writer's nanosecond records, and a reader of both kinds in both byte orders.
 #![tactic(auto)]
 
 mod fault;

@@ -1,3 +1,5 @@
+// The reader of captures: `start` reads the file header, and then `next` reads record after record while `live` says that there may be one.
+
 ghost use Rattle.std.specs.Prelude.{◌≡◌, ◌+◌, ◌^◌, ◌<◌, ◌≤◌, true, length, IfOk, IfSome, IfNone, IsErrOf};
 ghost use Rattle.std.specs.Io.KnownBytes.{IsAtEnd};
 ghost use Rattle.trex_io.specs.Faults.{Rises};
@@ -17,8 +19,11 @@ const MOST_RECORDS: u64 = 100_000_000;
 /// Reads a capture record by record from a source that gives its bytes in pieces of any size (pcap 2.4).
 #[derive(Debug, Drop)]
 pub struct CaptureReader {
+    /// How the capture spells its numbers.
     format: Format,
+    /// How many records were read.
     records: u64,
+    /// Whether there may be more.
     live: bool,
 }
 
@@ -90,7 +95,7 @@ impl CaptureReader {
     }
 }
 
-// The record that stands at the front of what is left, where so many came before.
+/// The record that stands at the front of what the source has left, where `before` records came before it.
 fn read_record<S: Source>(
     format: Format,
     before: u64,
@@ -138,7 +143,7 @@ mod tests {
     use std::test::Fail;
     use trex_io::MemSource;
 
-    // The answer to these bytes after so many records.
+    /// The answer to these bytes after `records` records.
     fn after(
         alloc: Global,
         records: u64,

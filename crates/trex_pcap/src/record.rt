@@ -1,3 +1,5 @@
+// A record of a capture, without its bytes.
+
 /// A record of a capture (pcap 2.4, packet record). Its captured bytes stand in the caller's buffer.
 #[derive(Clone, Copy, Debug, PartialEq, Eq, Drop)]
 pub struct Record {

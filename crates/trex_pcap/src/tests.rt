@@ -1,3 +1,5 @@
+// Captures that are cut, damaged, in either byte order, and from a source that fails. Their bytes are spelled out here after pcap 2.4.
+
 ghost use Rattle.std.specs.Prelude.{◌≤◌};
 
 use super::*;
@@ -5,7 +7,7 @@ use std::alloc::{AllocError, Global};
 use std::test::Fail;
 use trex_io::MemSource;
 
-// A capture of two records of 16 bytes: little-endian, nanoseconds.
+/// A capture of two records of 16 bytes: little-endian, nanoseconds.
 const TWO: [u8; 88] = [
     0x4d, 0x3c, 0xb2, 0xa1, 2, 0, 4, 0, 0, 0, 0, 0, 0, 0, 0, 0, 0, 0, 4, 0, 1, 0, 0, 0, // file header
     0, 0, 0, 0, 0, 0, 0, 0, 16, 0, 0, 0, 16, 0, 0, 0, // at 0
@@ -14,18 +16,20 @@ const TWO: [u8; 88] = [
     0xab, 1, 0, 0, 0, 0, 0, 1, 0, 0, 0, 0, 0, 0, 0, 0, // 16 bytes
 ];
 
-// The file header and one record of a capture of the magic number's bytes, at one second and 999,999 fractions.
+/// A capture of one empty record, at one second and 999,999 fractions, with the highest byte of each number first. The magic number is
+/// put in by the test.
 const BIG: [u8; 40] = [
     0, 0, 0, 0, 0, 2, 0, 4, 0, 0, 0, 0, 0, 0, 0, 0, 0, 0, 0xff, 0xff, 0, 0, 0, 1, // file header
     0, 0, 0, 1, 0, 0x0f, 0x42, 0x3f, 0, 0, 0, 0, 0, 0, 0, 14,
 ];
 
+/// The same capture with the lowest byte of each number first.
 const LITTLE: [u8; 40] = [
     0, 0, 0, 0, 2, 0, 4, 0, 0, 0, 0, 0, 0, 0, 0, 0, 0xff, 0xff, 0, 0, 1, 0, 0, 0, // file header
     1, 0, 0, 0, 0x3f, 0x42, 0x0f, 0, 0, 0, 0, 0, 14, 0, 0, 0,
 ];
 
-// Five records at 1 s and 1 to 5 us in a capture of microseconds; their bytes have the numbers 0, 2, 1, 2, 5.
+/// Five records at 1 s and 1 to 5 us in a capture of microseconds; their bytes have the numbers 0, 2, 1, 2, 5.
 const FIVE: [u8; 184] = [
     0xa1, 0xb2, 0xc3, 0xd4, 0, 2, 0, 4, 0, 0, 0, 0, 0, 0, 0, 0, 0, 0, 0xff, 0xff, 0, 0, 0, 1, //
     0, 0, 0, 1, 0, 0, 0, 1, 0, 0, 0, 16, 0, 0, 0, 16, //
@@ -40,7 +44,7 @@ const FIVE: [u8; 184] = [
     0xab, 1, 0, 7, 0, 0, 0, 5, 0, 0, 0, 0, 0x3b, 0x9a, 0xca, 0,
 ];
 
-// What a reader gave: the records, their captured bytes in a row, and its fault.
+/// What a reader gave: the records, their captured bytes in a row, and its fault.
 #[derive(Drop)]
 struct Reading {
     records: Vec<Record>,
@@ -48,7 +52,7 @@ struct Reading {
     fault: Option<CaptureFault>,
 }
 
-// Reads up to ten records of a capture, from a source that fails at these calls.
+/// Reads up to ten records of a capture, from a source that fails at these calls.
 fn read(alloc: Global, text: &[u8], per_call: usize, failing: &[u64]) -> Result<Reading, AllocError>
     requires { 1 ≤ per_call }
 {
@@ -82,6 +86,7 @@ fn read(alloc: Global, text: &[u8], per_call: usize, failing: &[u64]) -> Result<
     })
 }
 
+/// No fault, with its type.
 const NONE: Option<CaptureFault> = None;
 
 #[test]
@@ -138,7 +143,7 @@ fn a_capture_is_torn_inside_its_header_and_inside_each_record(rt: HostRuntime) -
     Ok(())
 }
 
-// Four bytes of the capture of two records, changed; how many records are then read, and the fault.
+/// A place in the capture of two records, four bytes that stand there instead, how many records are then read, and the fault.
 #[derive(Drop)]
 struct Row(u8, [u8; 4], usize, Option<CaptureFault>);
 

@@ -1,3 +1,5 @@
+// The headers of a capture as they are written (pcap 2.4).
+
 ghost use Rattle.std.specs.Prelude.{◌≡◌, ◌<◌, ◌*◌, ◌^◌};
 ghost use Rattle.trex_pcap.specs.Writing.{file_header, record_header_of};
 
@@ -6,9 +8,10 @@ use byteorder::{ByteOrder, LittleEndian};
 /// The magic number of a capture whose fractions of a second are nanoseconds.
 pub(crate) const MAGIC_NANOSECONDS: u32 = 0xA1B2_3C4D;
 
-/// The format's version, 2.4.
+/// The number before the point of the format's version, 2.4.
 pub(crate) const VERSION_MAJOR: u16 = 2;
 
+/// The number behind the point of the format's version, 2.4.
 pub(crate) const VERSION_MINOR: u16 = 4;
 
 /// The greatest number of bytes of a packet that a record holds.

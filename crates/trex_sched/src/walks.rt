@@ -115,7 +115,11 @@ fn add<'p>(
 }
 
 /// Passes the next packet of the walk at a place, and answers it. The walk's head is put back where it has a further packet.
-fn take_next(walks: &mut Vec<Walk>, heads: &mut BinaryHeap<Reverse<Head>>, place: usize) -> Option<Slot>
+fn take_next(
+    walks: &mut Vec<Walk>,
+    heads: &mut BinaryHeap<Reverse<Head>>,
+    place: usize,
+) -> Option<Slot>
     requires place { place < vec_len walks.old }
     requires room { heap_len heads.old < heap_capacity heads.old }
     requires others { AreHeads (slice_set walks.old.items place []) (heap_items heads.old) }

@@ -15,7 +15,7 @@ use Rattle.trex_vars.specs.Value.{back, counted, flows, value_at, word_at}
 use Rattle.trex_vars.specs.Variable.{Variable, Counter, RandLimit, ListOf, Tuple}
 use Rattle.trex_vars.proofs.Modulo.{back-steps}
 use Rattle.trex_vars.proofs.Sound.{no_fault}
-use Rattle.trex_vars.proofs.Turning.{place-of}
+use Rattle.trex_vars.proofs.RegisterTurns.{place-of}
 
 -- a list without a fault has a value
 has_value : (values : List ℕ) → ((length values == 0) || nat_lt 4096 (length values)) ≡ false → 0 < length values

@@ -1,5 +1,5 @@
 pub mod DrawLemmas
 mod Modulo
 mod Sound
-mod Turning
+mod RegisterTurns
 pub mod BoundsLemmas

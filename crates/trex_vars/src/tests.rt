@@ -1,5 +1,4 @@
-// The values of each kind of variable on 1 to 5 cores, worked out by hand; random ones are the generator's words as a second program gives
-// them.
+// The values of each kind of variable on 1 to 5 cores. Those of random ones were computed by a second program.
 
 ghost use Rattle.std.specs.Prelude.{◌≡◌, ◌^◌, ◌<◌, ◌≤◌, None, length};
 ghost use Rattle.trex_vars.specs.Check.{fault_of};

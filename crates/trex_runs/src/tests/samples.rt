@@ -11,7 +11,7 @@ use trex_sample::sample_profile;
 use trex_top::{Status, prepare};
 use trex_words::RunAsk;
 
-// the numbers were worked out by another program
+/// The numbers were worked out by a second program.
 #[test]
 fn a_sample_of_a_million_packets_is_one_line(rt: HostRuntime) -> Result<(), Fail> {
     let ends = Ends {

@@ -5,9 +5,6 @@ use Rattle.trex_crew.proofs.workers.+workers.Given as goal
 abbrev pub decreases-work_by_gates : goal.decreases-work_by_gates
 decreases-work_by_gates g l = 4 * length l.gates.now + 3
 
-abbrev pub decreases-work_with_other : goal.decreases-work_with_other
-decreases-work_with_other g l = 4 * length l.gates.now + 2
-
 abbrev pub decreases-work_in_threads : goal.decreases-work_in_threads
 decreases-work_in_threads g l = 4 * length l.right.now + 5
 

@@ -1,4 +1,4 @@
-use Rattle.trex_headers.proofs.Verifying.{built-verifies}
+use Rattle.trex_headers.proofs.VerifiedHeaders.{built-verifies}
 use Rattle.trex_headers.proofs.laws.headers_verify.Goals as goal
 
 pub returns : goal.returns

@@ -1,6 +1,6 @@
 use Rattle.std.proofs.Common.{◌≡◌, map, drop, take}
 use Rattle.serde_json.specs.View.{view}
-use Rattle.trex_build.specs.Layer.{layer}
+use Rattle.trex_json.specs.Layer.{layer}
 use Rattle.trex_profile.specs.Order.{first_each}
 use Rattle.trex_json.specs.Layers.{layer_rule, layer_of}
 use Rattle.trex_json.proofs.layers.each_layer.Given as goal

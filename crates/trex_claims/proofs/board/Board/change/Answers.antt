@@ -1,4 +1,4 @@
-use Rattle.std.proofs.Common.{◌≡◌, ◌+◌, ◌<◌, ◌⊎◌, sym, subst, ◌∙◌, arith}
+use Rattle.std.proofs.Common.{◌+◌, ◌<◌, ◌⊎◌, sym, subst, ◌∙◌, arith}
 use Rattle.trex_claims.specs.Views.{IsFull, IsEmpty}
 use Rattle.trex_claims.specs.Moves.{state_at, round_closed}
 use Rattle.trex_claims.proofs.SlotLemmas.{closed_slot}

@@ -2,7 +2,7 @@ use Rattle.std.proofs.Common.{◌≡◌, ℕ, ◌+◌, ◌∙◌, sym, ap}
 use Rattle.std.specs.Prelude.{Some}
 use Rattle.trex_vars.specs.Registers.{draw_at}
 use Rattle.trex_vars.specs.Variable.{variable_of}
-use Rattle.trex_vars.proofs.Turning.{draw-on, no_draw-on, is_at-turned}
+use Rattle.trex_vars.proofs.RegisterTurns.{draw-on, no_draw-on, is_at-turned}
 use Rattle.trex_vars.proofs.strided.Strided.step.Goals as goal
 use Rattle.trex_vars.proofs.strided.Strided.step.Goals.{in-Some, in_default}
 
