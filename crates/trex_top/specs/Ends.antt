@@ -5,6 +5,7 @@ pub mod Measured
 pub mod Analyze
 pub mod Sample
 pub mod Wire
+pub mod Session
 pub mod Help
 use Rattle.std.specs.Prelude.{◌≡◌, Result, Ok, Err}
 use Rattle.trex_report.specs.declared.line.Line.TheVariants.{Usage as UsageLine}
@@ -18,6 +19,7 @@ use Rattle.trex_top.specs.Ends.Check.{CheckEnds}
 use Rattle.trex_top.specs.Ends.Analyze.{AnalyzeEnds}
 use Rattle.trex_top.specs.Ends.Sample.{SampleEnds}
 use Rattle.trex_top.specs.Ends.Wire.{WireEnds}
+use Rattle.trex_top.specs.Ends.Session.{SessionEnds}
 use Rattle.trex_top.specs.Ends.Help.{HelpEnds}
 use Rattle.trex_top.specs.Rows.{Says}
 use Rattle.trex_top.specs.Sides.{Side, GateSide, Kept, Unentered}
@@ -31,4 +33,5 @@ module _ {S O N G : Type 0} where
   Ends (Ok ask.Analyze) input out notes gates s = AnalyzeEnds input out notes s × Unentered gates
   Ends (Ok (ask.Sample a)) input out notes gates s = SampleEnds a out notes gates s × Kept input
   Ends (Ok (ask.Wire a)) input out notes gates s = WireEnds a input out notes s × Unentered gates
+  Ends (Ok ask.Session) input out notes gates s = SessionEnds input out notes s
   Ends (Ok ask.Help) input out notes gates s = HelpEnds out notes s × Kept input × Unentered gates

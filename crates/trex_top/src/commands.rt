@@ -5,4 +5,5 @@ pub(crate) mod check;
 pub(crate) mod help;
 pub(crate) mod run;
 pub(crate) mod sample;
+pub(crate) mod session;
 pub(crate) mod wire;

@@ -19,4 +19,6 @@ pub enum Status {
     BadCapture = 7,
     /// There was no memory.
     Memory = 8,
+    /// The input of a session breaks a bound.
+    BadSession = 10,
 }

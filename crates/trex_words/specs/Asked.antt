@@ -9,9 +9,9 @@ use Rattle.trex_words.specs.declared.asked.RunAsk.{RunAsk}
 use Rattle.trex_words.specs.declared.asked.SampleAsk.{SampleAsk}
 use Rattle.trex_words.specs.declared.asked.WireAsk.{WireAsk}
 use Rattle.trex_words.specs.declared.asked.Asked.{Asked}
-use Rattle.trex_words.specs.declared.asked.Asked.TheVariants.{Run as ARun, Check as ACheck, Analyze as AnAnalysis, Sample as ASample, Wire as AWire, Help as SomeHelp}
+use Rattle.trex_words.specs.declared.asked.Asked.TheVariants.{Run as ARun, Check as ACheck, Analyze as AnAnalysis, Sample as ASample, Wire as AWire, Session as ASession, Help as SomeHelp}
 use Rattle.trex_words.specs.declared.command.Command.{Command}
-use Rattle.trex_words.specs.declared.command.Command.TheVariants.{Run, Check, Analyze, Sample, Wire, Help}
+use Rattle.trex_words.specs.declared.command.Command.TheVariants.{Run, Check, Analyze, Sample, Wire, Session, Help}
 use Rattle.trex_words.specs.declared.options.Limits.{Limits}
 use Rattle.trex_words.specs.declared.asked.OptionName.TheVariants.{Seed}
 use Rattle.trex_words.specs.declared.asked.Usage.{Usage}
@@ -29,7 +29,8 @@ command_of word =
     else (if bytes_eq word (codes "analyze") then Some Analyze
     else (if bytes_eq word (codes "sample") then Some Sample
     else (if bytes_eq word (codes "wire") then Some Wire
-    else (if bytes_eq word (codes "help") then Some Help else None)))))
+    else (if bytes_eq word (codes "session") then Some Session
+    else (if bytes_eq word (codes "help") then Some Help else None))))))
 
 -- the options of a command: the name of each, its least and its greatest value, and its value where it isn't given
 abbrev pub Options : Type 0
@@ -68,6 +69,7 @@ options_of Check = []
 options_of Analyze = []
 options_of Sample = sample_options
 options_of Wire = wire_options
+options_of Session = []
 options_of Help = []
 
 -- the limits of an option, if the command has it
@@ -138,6 +140,7 @@ missing_option Check words = None
 missing_option Analyze words = None
 missing_option Sample words = missing_seed words
 missing_option Wire words = missing_seed words
+missing_option Session words = None
 missing_option Help words = None
 
 -- what is wrong with the words of a command: the first fault from the left, and after the last word an option that is missing
@@ -179,6 +182,7 @@ request Check words = ACheck
 request Analyze words = AnAnalysis
 request Sample words = ASample (sample_ask words)
 request Wire words = AWire (wire_ask words)
+request Session words = ASession
 request Help words = SomeHelp
 
 -- the request, if nothing is wrong with the words
@@ -221,4 +225,5 @@ IsAsked ACheck = Unit {0}
 IsAsked AnAnalysis = Unit {0}
 IsAsked (ASample ask) = IsSampleAsk ask
 IsAsked (AWire ask) = IsWireAsk ask
+IsAsked ASession = Unit {0}
 IsAsked SomeHelp = Unit {0}

@@ -11,6 +11,7 @@ pub enum Command {
     Analyze,
     Sample,
     Wire,
+    Session,
     Help,
 }
 
@@ -28,6 +29,8 @@ pub fn command_of(word: &str) -> Option<Command>
         Some(Command::Sample)
     } else if word == "wire" {
         Some(Command::Wire)
+    } else if word == "session" {
+        Some(Command::Session)
     } else if word == "help" {
         Some(Command::Help)
     } else {

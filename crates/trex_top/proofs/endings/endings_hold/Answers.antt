@@ -1,4 +1,4 @@
-use Rattle.trex_top.proofs.EndsLemmas.{usage, causes, leaves, rounds, run_refuses, check_refuses, measuring_refuses, completes}
+use Rattle.trex_top.proofs.EndsLemmas.{usage, causes, leaves, rounds, run_refuses, check_refuses, measuring_refuses, session_breaks, completes}
 use Rattle.trex_top.proofs.endings.endings_hold.Goals as goal
 
 pub returns-clause-usage : goal.returns-clause-usage
@@ -21,6 +21,9 @@ returns-clause-check_refuses g c input out notes s refused e = check_refuses inp
 
 pub returns-clause-measuring_refuses : goal.returns-clause-measuring_refuses
 returns-clause-measuring_refuses g c text input out notes s bad e = measuring_refuses input out notes text c.one_reading.ensures s bad e
+
+pub returns-clause-session_breaks : goal.returns-clause-session_breaks
+returns-clause-session_breaks g c input out notes s broken e = session_breaks input out notes s broken e
 
 pub returns-clause-complete : goal.returns-clause-complete
 returns-clause-complete g c a input out notes gates s suits read wrote noted e =
