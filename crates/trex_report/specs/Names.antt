@@ -4,6 +4,8 @@ use Rattle.trex_profile.specs.declared.rule.Rule.{Rule}
 use Rattle.trex_profile.specs.declared.rule.Rule.TheVariants.{TooLong, NotJson, NotArray, TooManyStreams, BadEntry, BadStreamId, BadStream, BadEnabled, BadSelfStart, BadIsg, BadNext, BadActionCount, BadSeed, BadPacket, BadBinary, BadLayer, LayerOrder, LayersTooLong, BadMode, BadRate, BadCount, BadIbg, BadFlowStats, BadVm, TooManyInstructions, BadInstruction, BadOperand, BadLength, RateZero, RateTooHigh, CountZero, VarName, VarRange, UnknownVariable, TwoTrims, TrimRange, NoRoomForStamp, BadField, WriteRoom, BadFix, WriteOnShape, DuplicateId, NoSuchStream, SharedStream, DuplicateFlow}
 use Rattle.trex_pcap.specs.declared.fault.CaptureFault.{CaptureFault}
 use Rattle.trex_pcap.specs.declared.fault.CaptureFault.TheVariants.{Torn, BadMagic, BadVersion, BadLink, TooMany, BadFraction, BadLength as TooManyBytes, Fault}
+use Rattle.trex_pcap.specs.declared.unfit.Unfit.{Unfit}
+use Rattle.trex_pcap.specs.declared.unfit.Unfit.TheVariants.{Count, Length, Cut, Backwards, Late, TooLarge}
 use Rattle.trex_words.specs.declared.asked.OptionName.{OptionName}
 use Rattle.trex_words.specs.declared.asked.OptionName.TheVariants.{Duration, Limit, Cores, Base, Seed, Streams, Loss, Copy, Delay}
 
@@ -77,3 +79,12 @@ fault_name TooMany = codes "TooMany"
 fault_name (BadFraction number) = codes "BadFraction"
 fault_name (TooManyBytes number) = codes "BadLength"
 fault_name Fault = codes "Fault"
+
+-- why a capture makes no profile
+abbrev pub unfit_name : Unfit → List ℕ
+unfit_name (Count number) = codes "Count"
+unfit_name (Length number) = codes "Length"
+unfit_name (Cut number) = codes "Cut"
+unfit_name (Backwards number) = codes "Backwards"
+unfit_name (Late number) = codes "Late"
+unfit_name TooLarge = codes "TooLarge"

@@ -4,6 +4,8 @@ use Rattle.std.specs.List.{concat, flat_map}
 use Rattle.std.specs.Fmt.{decimal}
 use Rattle.trex_pcap.specs.declared.fault.CaptureFault.{CaptureFault}
 use Rattle.trex_pcap.specs.declared.fault.CaptureFault.TheVariants.{Torn, BadMagic, BadVersion, BadLink, TooMany, BadFraction, BadLength, Fault}
+use Rattle.trex_pcap.specs.declared.unfit.Unfit.{Unfit}
+use Rattle.trex_pcap.specs.declared.unfit.Unfit.TheVariants.{Count, Length, Cut, Backwards, Late, TooLarge}
 use Rattle.trex_profile.specs.declared.refusal.Refusal.{Refusal}
 use Rattle.trex_io.specs.Seen.{Seen}
 use Rattle.trex_stats.specs.Counts.{Counts, flows_of, lines_in, lines_of, totals_of}
@@ -13,8 +15,8 @@ use Rattle.trex_words.specs.declared.asked.Usage.{Usage}
 use Rattle.trex_words.specs.declared.asked.Usage.TheVariants.{NoCommand, UnknownCommand, UnknownOption, Repeated, NoValue, BadNumber, OutOfRange, Missing}
 use Rattle.trex_report.specs.declared.report.Tally.{Tally}
 use Rattle.trex_report.specs.declared.line.Line.{Line}
-use Rattle.trex_report.specs.declared.line.Line.TheVariants.{Accepted, Usage as UsageLine, Refused, BadCapture, ReadFault, WriteFault, OutOfMemory, Sample, Wire, LineTooLong, TooMuch}
-use Rattle.trex_report.specs.Names.{fault_name, rule_name, option_name}
+use Rattle.trex_report.specs.declared.line.Line.TheVariants.{Accepted, Usage as UsageLine, Refused, BadCapture, Unfit as UnfitLine, ReadFault, WriteFault, OutOfMemory, Sample, Wire, LineTooLong, TooMuch}
+use Rattle.trex_report.specs.Names.{fault_name, unfit_name, rule_name, option_name}
 
 -- how many packets, and of how many bytes
 abbrev pub count_pieces : ℕ → ℕ → List (List ℕ)
@@ -108,10 +110,26 @@ record_of (BadFraction number) = Some number
 record_of (BadLength number) = Some number
 record_of Fault = None
 
+-- what is said of a capture: what it is, and the record where it has one
+unfoldable pub capture_line : List ℕ → List ℕ → Option ℕ → List ℕ
+capture_line said name number = concat (said ∷ name ∷ place_pieces (codes " record ") number ++ codes "\n" ∷ [])
+
 -- what is wrong with a capture
-unfoldable pub fault_line : CaptureFault → List ℕ
-fault_line fault =
-    concat (codes "bad capture: " ∷ fault_name fault ∷ place_pieces (codes " record ") (record_of fault) ++ codes "\n" ∷ [])
+abbrev pub fault_line : CaptureFault → List ℕ
+fault_line fault = capture_line (codes "bad capture: ") (fault_name fault) (record_of fault)
+
+-- the record that makes a capture unfit, where it is one
+abbrev pub unfit_record : Unfit → Option ℕ
+unfit_record (Count number) = Some number
+unfit_record (Length number) = Some number
+unfit_record (Cut number) = Some number
+unfit_record (Backwards number) = Some number
+unfit_record (Late number) = Some number
+unfit_record TooLarge = None
+
+-- why a capture makes no profile
+abbrev pub unfit_line : Unfit → List ℕ
+unfit_line unfit = capture_line (codes "unfit capture: ") (unfit_name unfit) (unfit_record unfit)
 
 -- a number below 16 as a digit, in lower case
 abbrev pub hex_digit : ℕ → ℕ
@@ -150,6 +168,7 @@ line_text (Accepted streams) = accepted_line streams
 line_text (UsageLine usage) = usage_line usage
 line_text (Refused r) = refusal_line r
 line_text (BadCapture fault) = fault_line fault
+line_text (UnfitLine unfit) = unfit_line unfit
 line_text ReadFault = codes "read fault\n"
 line_text WriteFault = codes "write fault\n"
 line_text OutOfMemory = codes "out of memory\n"

@@ -3,14 +3,14 @@
 ghost use Rattle.trex_io.specs.Texts.{Writes};
 ghost use Rattle.trex_report.specs.Texts.{accepted_line, line_text, session_line};
 
-use crate::capture::write_bad_capture;
+use crate::capture::{write_bad_capture, write_unfit};
 use crate::refusal::write_refusal;
 use crate::sample::write_sample;
 use crate::usage::write_usage;
 use crate::wire::write_wire;
 use itoa::Buffer;
 use trex_io::{Failed, Sink, write_all, write_pieces};
-use trex_pcap::CaptureFault;
+use trex_pcap::{CaptureFault, Unfit};
 use trex_profile::Refusal;
 use trex_words::Usage;
 
@@ -27,6 +27,8 @@ pub enum Line {
     Refused(Refusal),
     /// A capture has a fault.
     BadCapture(CaptureFault),
+    /// A capture makes no profile.
+    Unfit(Unfit),
     /// The input could not be read.
     ReadFault,
     /// The output could not be written.
@@ -102,6 +104,7 @@ pub fn write_line<O: Sink>(to: &mut O, which: Line) -> Result<(), Failed>
         Line::Usage(usage) => write_usage(to, &usage),
         Line::Refused(refusal) => write_refusal(to, &refusal),
         Line::BadCapture(fault) => write_bad_capture(to, &fault),
+        Line::Unfit(unfit) => write_unfit(to, unfit),
         Line::ReadFault => write_all(to, b"read fault\n"),
         Line::WriteFault => write_all(to, b"write fault\n"),
         Line::OutOfMemory => write_all(to, b"out of memory\n"),

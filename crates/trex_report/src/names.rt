@@ -1,9 +1,9 @@
 // Names, as they are printed.
 
 ghost use Rattle.std.specs.Prelude.{◌≡◌};
-ghost use Rattle.trex_report.specs.Names.{fault_name, rule_name, option_name};
+ghost use Rattle.trex_report.specs.Names.{fault_name, unfit_name, rule_name, option_name};
 
-use trex_pcap::CaptureFault;
+use trex_pcap::{CaptureFault, Unfit};
 use trex_profile::Rule;
 use trex_words::OptionName;
 
@@ -90,5 +90,19 @@ pub(crate) fn fault_name(fault: CaptureFault) -> &'static str
         CaptureFault::BadFraction { number: _ } => "BadFraction",
         CaptureFault::BadLength { number: _ } => "BadLength",
         CaptureFault::Fault => "Fault",
+    }
+}
+
+/// Why a capture makes no profile, as it is printed.
+pub(crate) fn unfit_name(unfit: Unfit) -> &'static str
+    ensures { result.now ≡ unfit_name unfit }
+{
+    match unfit {
+        Unfit::Count { number: _ } => "Count",
+        Unfit::Length { number: _ } => "Length",
+        Unfit::Cut { number: _ } => "Cut",
+        Unfit::Backwards { number: _ } => "Backwards",
+        Unfit::Late { number: _ } => "Late",
+        Unfit::TooLarge => "TooLarge",
     }
 }

@@ -4,7 +4,7 @@ use super::*;
 use std::alloc::Global;
 use std::test::Fail;
 use trex_io::MemSink;
-use trex_pcap::CaptureFault;
+use trex_pcap::{CaptureFault, Unfit};
 use trex_stats::Stats;
 use trex_words::{OptionName, Usage};
 
@@ -36,6 +36,11 @@ fn a_line_ends_with_its_numbers(rt: HostRuntime) -> Result<(), Fail> {
             Line::BadCapture(CaptureFault::TooMany),
             "bad capture: TooMany\n",
         ),
+        (
+            Line::Unfit(Unfit::Backwards { number: 2 }),
+            "unfit capture: Backwards record 2\n",
+        ),
+        (Line::Unfit(Unfit::TooLarge), "unfit capture: TooLarge\n"),
         (Line::Usage(missing), "usage: Missing option --seed\n"),
         (
             sample,

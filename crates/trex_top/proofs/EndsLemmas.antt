@@ -1,9 +1,11 @@
 -- What follows from the tables of the commands: a row for each status that has something to say.
 use Rattle.std.proofs.Common.{◌≡◌, ℕ, inl, inr, ◌↔◌, true, false, List, [], ◌∷◌, Option, Some, None, Result, Ok, Err, IfSome, IsErr, refl, sym, subst, ◌∙◌}
 use Rattle.trex_crew.specs.Told.{IfTold}
+use Rattle.trex_import.specs.Fit.{unfit_of}
 use Rattle.trex_io.specs.Seen.{Seen}
 use Rattle.trex_measure.specs.Measured.{HasFault, OnCapture}
 use Rattle.trex_pcap.specs.declared.fault.CaptureFault.{CaptureFault}
+use Rattle.trex_pcap.specs.declared.unfit.Unfit.{Unfit as WhyUnfit}
 use Rattle.trex_pcap.specs.Reading.{IsCapture}
 use Rattle.trex_profile.specs.declared.refusal.Refusal.{Refusal}
 use Rattle.trex_profile.specs.Stream.{Stream}
@@ -13,11 +15,12 @@ use Rattle.trex_words.specs.declared.asked.RunAsk.{RunAsk}
 use Rattle.trex_words.specs.declared.asked.SampleAsk.{SampleAsk}
 use Rattle.trex_words.specs.declared.asked.Usage.{Usage as WordsFault}
 use Rattle.trex_top.specs.declared.status.Status.{Status}
-use Rattle.trex_top.specs.declared.status.Status.TheVariants.{Done, Usage, Refused, ReadFault, OutFault, NotesFault, BadCapture, Memory, BadSession}
-use Rattle.trex_top.specs.Endings.{EntersGates, HasItsCause, IsAmong, IsBadCapture, IsBroken, IsGoodCapture, IsProfile, IsRefused, IsUnbroken, Leaves, LeavesOutput, Suits}
+use Rattle.trex_top.specs.declared.status.Status.TheVariants.{Done, Usage, Refused, ReadFault, OutFault, NotesFault, BadCapture, Memory, Unfit, BadSession}
+use Rattle.trex_top.specs.Endings.{EntersGates, HasItsCause, IsAmong, IsBadCapture, IsFitCapture, IsBroken, IsGoodCapture, IsProfile, IsRefused, IsUnfitCapture, IsUnbroken, Leaves, LeavesOutput, Suits}
 use Rattle.trex_top.specs.Ends.{Ends}
 use Rattle.trex_top.specs.Ends.Check.{CheckEnds}
 use Rattle.trex_top.specs.Ends.Help.{HelpEnds}
+use Rattle.trex_top.specs.Ends.Import.{ImportEnds}
 use Rattle.trex_top.specs.Ends.Measured.{MeasuredEnds}
 use Rattle.trex_top.specs.Ends.Run.{RunEnds}
 use Rattle.trex_top.specs.Ends.Sample.{SampleEnds}
@@ -59,6 +62,32 @@ good-apart one None e good bad = good
 good-apart one (Some text) e (rs, good) bad =
     let same : None ≡ Some e = (one text rs bad.0 None (Some e) good bad.1).1 in absurd (cc)
 
+-- a capture that makes a profile has no fault
+fit-good : (text : Option (List ℕ)) → IsFitCapture text → IsGoodCapture text
+fit-good None fit = fit
+fit-good (Some text) (rs, is, none) = (rs, is)
+
+-- a capture that makes a profile isn't unfit
+fit-apart : OneReading → (text : Option (List ℕ)) (u : WhyUnfit) → IsFitCapture text → OnCapture text (λ rs. unfit_of rs ≡ Some u) → ⊥
+fit-apart one None u fit on = fit
+fit-apart one (Some text) u (rs, is, none) (ss, other, some) =
+    let same : rs ≡ ss = (one text rs ss None None is other).0 in
+    let e : None ≡ Some u = sym (subst (λ l. unfit_of l ≡ None) same none) ∙ some in
+    absurd (cc)
+
+-- a capture that makes no profile makes none
+unfit-apart : OneReading → (text : Option (List ℕ)) (P : List Seen → Type 0) → IsUnfitCapture text → OnCapture text (λ rs. (unfit_of rs ≡ None) × P rs) → ⊥
+unfit-apart one None P unfit on = unfit
+unfit-apart one (Some text) P (rs, u, is, some) (ss, other, (none, holds)) =
+    let same : rs ≡ ss = (one text rs ss None None is other).0 in
+    let e : Some u ≡ None = sym (subst (λ l. unfit_of l ≡ Some u) same some) ∙ none in
+    absurd (cc)
+
+-- a capture that makes no profile has no fault
+unfit-good : (text : Option (List ℕ)) → IsUnfitCapture text → IsGoodCapture text
+unfit-good None unfit = unfit
+unfit-good (Some text) (rs, u, is, some) = (rs, is)
+
 -- ---- the commands that enter no gate
 
 module _ {S O N : Type 0} (input : Side S) (out : Side O) (notes : Side N) where
@@ -73,6 +102,12 @@ module _ {S O N : Type 0} (input : Side S) (out : Side O) (notes : Side N) where
   measured_causes text OutFault e = e.1
   measured_causes text NotesFault e = absurd e
   measured_causes text _ e = tt
+
+  import_causes : (s : Status) → ImportEnds input out notes s → HasItsCause input out notes s
+  import_causes ReadFault e = e.0
+  import_causes OutFault e = e.1
+  import_causes NotesFault e = absurd e
+  import_causes _ e = tt
 
   help_causes : (s : Status) → HelpEnds out notes s → HasItsCause input out notes s
   help_causes OutFault e = e.0
@@ -95,6 +130,15 @@ module _ {S O N : Type 0} (input : Side S) (out : Side O) (notes : Side N) where
   measured_leaves text ReadFault e = e.1.0
   measured_leaves text Memory e = e.0
   measured_leaves text _ e = absurd e
+
+  import_leaves : (s : Status) → ImportEnds input out notes s → Leaves out s
+  import_leaves Done e = tt
+  import_leaves OutFault e = tt
+  import_leaves Unfit e = e.3.0
+  import_leaves BadCapture e = e.2.0
+  import_leaves ReadFault e = e.1.0
+  import_leaves Memory e = e.0
+  import_leaves _ e = absurd e
 
   help_leaves : (s : Status) → HelpEnds out notes s → Leaves out s
   help_leaves Done e = tt
@@ -120,6 +164,26 @@ module _ {S O N : Type 0} (input : Side S) (out : Side O) (notes : Side N) where
   measuring_refuses text one OutFault bad e = absurd (bad-apart one (given input) _ bad e.0)
   measuring_refuses text one _ bad e = absurd e
 
+  pub import_refuses : OneReading → (s : Status) → IsBadCapture (given input) → ImportEnds input out notes s
+      → IsAmong s (BadCapture ∷ ReadFault ∷ Memory ∷ [])
+  import_refuses one BadCapture bad e = inl refl
+  import_refuses one ReadFault bad e = inr (inl refl)
+  import_refuses one Memory bad e = inr (inr (inl refl))
+  import_refuses one Done bad e = absurd (bad-apart one (given input) _ bad e.0)
+  import_refuses one OutFault bad e = absurd (bad-apart one (given input) _ bad e.0)
+  import_refuses one Unfit bad e = absurd (bad-apart one (given input) _ bad e.1)
+  import_refuses one _ bad e = absurd e
+
+  -- a capture that makes no profile is called unfit
+  pub unfit_refuses : OneReading → (s : Status) → IsUnfitCapture (given input) → ImportEnds input out notes s → IsAmong s (Unfit ∷ ReadFault ∷ Memory ∷ [])
+  unfit_refuses one Unfit is e = inl refl
+  unfit_refuses one ReadFault is e = inr (inl refl)
+  unfit_refuses one Memory is e = inr (inr (inl refl))
+  unfit_refuses one BadCapture is e = absurd (good-apart one (given input) e.0 (unfit-good (given input) is) e.1)
+  unfit_refuses one Done is e = absurd (unfit-apart one (given input) _ is e.0)
+  unfit_refuses one OutFault is e = absurd (unfit-apart one (given input) _ is e.0)
+  unfit_refuses one _ is e = absurd e
+
   -- where nothing fails, what is asked is done
   module _ (one : OneReading) (read : ¬ Failed input) (wrote : ¬ Failed out) where
     check_completes : (s : Status) → IsProfile (given input) → CheckEnds input out notes s → IsAmong s (Done ∷ Memory ∷ [])
@@ -138,6 +202,15 @@ module _ {S O N : Type 0} (input : Side S) (out : Side O) (notes : Side N) where
     measured_completes text ReadFault good e = absurd (read e.0)
     measured_completes text OutFault good e = absurd (wrote e.1)
     measured_completes text _ good e = absurd e
+
+    import_completes : (s : Status) → IsFitCapture (given input) → ImportEnds input out notes s → IsAmong s (Done ∷ Memory ∷ [])
+    import_completes Done fit e = inl refl
+    import_completes Memory fit e = inr (inl refl)
+    import_completes Unfit fit e = absurd (fit-apart one (given input) e.0 fit e.1)
+    import_completes BadCapture fit e = absurd (good-apart one (given input) e.0 (fit-good (given input) fit) e.1)
+    import_completes ReadFault fit e = absurd (read e.0)
+    import_completes OutFault fit e = absurd (wrote e.1)
+    import_completes _ fit e = absurd e
 
     help_completes : (s : Status) → HelpEnds out notes s → IsAmong s (Done ∷ Memory ∷ [])
     help_completes Done e = inl refl
@@ -194,6 +267,7 @@ module _ {S O N G : Type 0} (input : Side S) (out : Side O) (notes : Side N) (ga
   never_usage ask.Check e = e.0
   never_usage ask.Analyze e = e.0
   never_usage (ask.Sample a) e = e.0
+  never_usage ask.Import e = e.0
   never_usage (ask.Wire a) e = e.0
   never_usage ask.Session e = e
   never_usage ask.Help e = e.0
@@ -222,6 +296,7 @@ module _ {S O N G : Type 0} (input : Side S) (out : Side O) (notes : Side N) (ga
   causes (Ok ask.Check) s e = check_causes input out notes s e.0
   causes (Ok ask.Analyze) s e = measured_causes input out notes analysis_text s e.0
   causes (Ok (ask.Sample a)) s e = sample_causes a s e.0
+  causes (Ok ask.Import) s e = import_causes input out notes s e.0
   causes (Ok (ask.Wire a)) s e = measured_causes input out notes (wire_text a) s e.0
   causes (Ok ask.Session) s e = session_causes input out notes s e
   causes (Ok ask.Help) s e = help_causes input out notes s e.0
@@ -248,6 +323,7 @@ module _ {S O N G : Type 0} (input : Side S) (out : Side O) (notes : Side N) (ga
   leaves (Ok ask.Check) s e = check_leaves input out notes s e.0
   leaves (Ok ask.Analyze) s e = measured_leaves input out notes analysis_text s e.0
   leaves (Ok (ask.Sample a)) s e = sample_leaves a s e.0
+  leaves (Ok ask.Import) s e = import_leaves input out notes s e.0
   leaves (Ok (ask.Wire a)) s e = measured_leaves input out notes (wire_text a) s e.0
   leaves (Ok ask.Session) s e = tt
   leaves (Ok ask.Help) s e = help_leaves input out notes s e.0
@@ -279,6 +355,7 @@ module _ {S O N G : Type 0} (input : Side S) (out : Side O) (notes : Side N) (ga
   rounds (Ok ask.Check) s e = e.1
   rounds (Ok ask.Analyze) s e = e.1
   rounds (Ok (ask.Sample a)) s e = sample_rounds a s e.0
+  rounds (Ok ask.Import) s e = e.1
   rounds (Ok (ask.Wire a)) s e = e.1
   rounds (Ok ask.Session) s e = tt
   rounds (Ok ask.Help) s e = e.2
@@ -315,6 +392,7 @@ module _ {S O N G : Type 0} (input : Side S) (out : Side O) (notes : Side N) (ga
     completes ask.Check s suits e = check_completes input out notes one read wrote s suits e.0
     completes ask.Analyze s suits e = measured_completes input out notes one read wrote analysis_text s suits e.0
     completes (ask.Sample a) s suits e = sample_completes a s e.0
+    completes ask.Import s suits e = import_completes input out notes one read wrote s suits e.0
     completes (ask.Wire a) s suits e = measured_completes input out notes one read wrote (wire_text a) s suits e.0
     completes ask.Session s suits e = session_completes input out notes read wrote noted s suits e
     completes ask.Help s suits e = help_completes input out notes one read wrote s e.0

@@ -1,16 +1,18 @@
 -- What follows from how the commands end. Own.
 use Rattle.std.specs.Prelude.{◌≡◌, ◌⊎◌, ℕ, List, [], ◌∷◌, Option, Some, None, Result, Ok, Err}
 use Rattle.trex_io.specs.Seen.{Seen}
+use Rattle.trex_import.specs.Fit.{unfit_of}
 use Rattle.trex_json.specs.Verdict.{verdict}
 use Rattle.trex_measure.specs.Measured.{HasFault}
 use Rattle.trex_pcap.specs.declared.fault.CaptureFault.{CaptureFault}
+use Rattle.trex_pcap.specs.declared.unfit.Unfit.{Unfit as WhyUnfit}
 use Rattle.trex_pcap.specs.Reading.{IsCapture}
 use Rattle.trex_profile.specs.declared.refusal.Refusal.{Refusal}
 use Rattle.trex_profile.specs.Stream.{Stream}
 use Rattle.trex_rpc.specs.declared.bound.Bound.{Bound}
 use Rattle.trex_rpc.specs.Heard.{heard}
 use Rattle.trex_words.specs.declared.asked.Asked.{Asked}
-use Rattle.trex_words.specs.declared.asked.Asked.TheVariants.{Run, Check, Analyze, Sample, Wire, Session, Help}
+use Rattle.trex_words.specs.declared.asked.Asked.TheVariants.{Run, Check, Analyze, Sample, Import, Wire, Session, Help}
 use Rattle.trex_words.specs.declared.asked.Usage.{Usage as WordsFault}
 use Rattle.trex_top.specs.declared.status.Status.{Status}
 use Rattle.trex_top.specs.declared.status.Status.TheVariants.{Done, ReadFault, OutFault, NotesFault}
@@ -41,6 +43,16 @@ abbrev pub IsBadCapture : Option (List ℕ) → Type 0
 IsBadCapture None = ⊥
 IsBadCapture (Some text) = (e : CaptureFault) × HasFault (Some text) e
 
+-- the text is told, and is a capture without a fault that makes a profile
+abbrev pub IsFitCapture : Option (List ℕ) → Type 0
+IsFitCapture None = ⊥
+IsFitCapture (Some text) = (rs : List Seen) × IsCapture text rs None × (unfit_of rs ≡ None)
+
+-- the text is told, and is a capture without a fault that makes no profile
+abbrev pub IsUnfitCapture : Option (List ℕ) → Type 0
+IsUnfitCapture None = ⊥
+IsUnfitCapture (Some text) = (rs : List Seen) × (u : WhyUnfit) × IsCapture text rs None × (unfit_of rs ≡ Some u)
+
 -- the text is told, and breaks no bound of sessions
 abbrev pub IsUnbroken : Option (List ℕ) → Type 0
 IsUnbroken None = ⊥
@@ -57,6 +69,7 @@ Suits (Run ask) text = IsProfile text
 Suits Check text = IsProfile text
 Suits Analyze text = IsGoodCapture text
 Suits (Sample ask) text = Unit {0}
+Suits Import text = IsFitCapture text
 Suits (Wire ask) text = IsGoodCapture text
 Suits Session text = IsUnbroken text
 Suits Help text = Unit {0}

@@ -4,6 +4,7 @@ pub mod Check
 pub mod Measured
 pub mod Analyze
 pub mod Sample
+pub mod Import
 pub mod Wire
 pub mod Session
 pub mod Help
@@ -18,6 +19,7 @@ use Rattle.trex_top.specs.Ends.Run.{RunEnds}
 use Rattle.trex_top.specs.Ends.Check.{CheckEnds}
 use Rattle.trex_top.specs.Ends.Analyze.{AnalyzeEnds}
 use Rattle.trex_top.specs.Ends.Sample.{SampleEnds}
+use Rattle.trex_top.specs.Ends.Import.{ImportEnds}
 use Rattle.trex_top.specs.Ends.Wire.{WireEnds}
 use Rattle.trex_top.specs.Ends.Session.{SessionEnds}
 use Rattle.trex_top.specs.Ends.Help.{HelpEnds}
@@ -32,6 +34,7 @@ module _ {S O N G : Type 0} where
   Ends (Ok ask.Check) input out notes gates s = CheckEnds input out notes s × Unentered gates
   Ends (Ok ask.Analyze) input out notes gates s = AnalyzeEnds input out notes s × Unentered gates
   Ends (Ok (ask.Sample a)) input out notes gates s = SampleEnds a out notes gates s × Kept input
+  Ends (Ok ask.Import) input out notes gates s = ImportEnds input out notes s × Unentered gates
   Ends (Ok (ask.Wire a)) input out notes gates s = WireEnds a input out notes s × Unentered gates
   Ends (Ok ask.Session) input out notes gates s = SessionEnds input out notes s
   Ends (Ok ask.Help) input out notes gates s = HelpEnds out notes s × Kept input × Unentered gates

@@ -1,10 +1,12 @@
 -- The rows that the tables of several commands share. Own.
 use Rattle.std.specs.Prelude.{◌≡◌, ℕ, List, Option, Some, None, Result, Err}
 use Rattle.trex_json.specs.Verdict.{verdict}
+use Rattle.trex_measure.specs.Measured.{HasFault}
+use Rattle.trex_pcap.specs.declared.fault.CaptureFault.{CaptureFault}
 use Rattle.trex_profile.specs.declared.refusal.Refusal.{Refusal}
 use Rattle.trex_profile.specs.Stream.{Stream}
 use Rattle.trex_report.specs.declared.line.Line.{Line}
-use Rattle.trex_report.specs.declared.line.Line.TheVariants.{Refused, ReadFault, WriteFault, OutOfMemory}
+use Rattle.trex_report.specs.declared.line.Line.TheVariants.{Refused, BadCapture, ReadFault, WriteFault, OutOfMemory}
 use Rattle.trex_top.specs.Sides.{Side, Kept, Failed, given, GotPart, GotLine}
 
 -- the verdict on a text, where the text is told
@@ -29,6 +31,10 @@ module _ {S O N : Type 0} where
   -- the profile breaks a rule, and the notes say which it breaks first
   abbrev pub BreaksRule : Side S → Side O → Side N → Type 0
   BreaksRule input out notes = (r : Refusal) × HasVerdict (given input) (Err r) × Says out notes (Refused r)
+
+  -- the capture has a fault, and the notes say which
+  abbrev pub BreaksFormat : Side S → Side O → Side N → Type 0
+  BreaksFormat input out notes = (e : CaptureFault) × HasFault (given input) e × Says out notes (BadCapture e)
 
   -- the input failed before anything was written
   abbrev pub CannotRead : Side S → Side O → Side N → Type 0

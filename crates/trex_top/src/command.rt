@@ -8,6 +8,7 @@ ghost use Rattle.trex_top.specs.Sides.{gate_side, side};
 use crate::commands::analyze::analyze;
 use crate::commands::check::check;
 use crate::commands::help::help;
+use crate::commands::import::import;
 use crate::commands::run::run;
 use crate::commands::sample::sample;
 use crate::commands::session::session;
@@ -22,8 +23,8 @@ use trex_report::Line;
 use trex_words::{Asked, read_words};
 
 /// The program: reads the command words and does what they ask. `input` has the profile or the capture. `out` gets the capture, the accepted
-/// line, the lines of flows, the sample line, the line of a wire or the help text, and `notes` the report of a run or the line of the status. A
-/// run's cores work in as many threads as there are `gates`.
+/// line, the lines of flows, the sample line, a profile, the line of a wire or the help text, and `notes` the report of a run or the line of the
+/// status. A run's cores work in as many threads as there are `gates`.
 pub fn trex_main<R: Threads + Sync, S: Source, O: Sink, N: Sink, G: Gate>(
     rt: &R,
     alloc: Global,
@@ -46,6 +47,7 @@ pub fn trex_main<R: Threads + Sync, S: Source, O: Sink, N: Sink, G: Gate>(
         Ok(Asked::Check) => check(alloc, input, out, notes),
         Ok(Asked::Analyze) => analyze(alloc, input, out, notes),
         Ok(Asked::Sample(ask)) => sample(rt, alloc, &ask, out, notes, gates),
+        Ok(Asked::Import) => import(alloc, input, out, notes),
         Ok(Asked::Wire(ask)) => wire(alloc, &ask, input, out, notes),
         Ok(Asked::Session) => session(rt, alloc, input, out, notes, gates),
         Ok(Asked::Help) => help(out, notes),

@@ -3,6 +3,7 @@
 pub(crate) mod analyze;
 pub(crate) mod check;
 pub(crate) mod help;
+pub(crate) mod import;
 pub(crate) mod run;
 pub(crate) mod sample;
 pub(crate) mod session;

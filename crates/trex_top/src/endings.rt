@@ -6,9 +6,10 @@ ghost use Rattle.trex_words.specs.declared.asked.Asked.{Asked as AnAsked};
 ghost use Rattle.trex_words.specs.declared.asked.RunAsk.{RunAsk as ARunAsk};
 ghost use Rattle.trex_words.specs.declared.asked.Usage.{Usage as AUsage};
 ghost use Rattle.trex_top.specs.declared.status.Status.{Status as AStatus};
-ghost use Rattle.trex_top.specs.Endings.{EntersGates, HasItsCause, IsAmong, IsBadCapture, IsBroken, IsRefused, LeavesOutput, Suits};
+ghost use Rattle.trex_top.specs.Endings.{EntersGates, HasItsCause, IsAmong, IsBadCapture, IsBroken, IsRefused, IsUnfitCapture, LeavesOutput, Suits};
 ghost use Rattle.trex_top.specs.Ends.{Ends};
 ghost use Rattle.trex_top.specs.Ends.Check.{CheckEnds};
+ghost use Rattle.trex_top.specs.Ends.Import.{ImportEnds};
 ghost use Rattle.trex_top.specs.Ends.Measured.{MeasuredEnds};
 ghost use Rattle.trex_top.specs.Ends.Run.{RunEnds};
 ghost use Rattle.trex_top.specs.Ends.Session.{SessionEnds};
@@ -42,6 +43,13 @@ pub fn endings_hold<S, O, N, G>()
     ensures measuring_refuses { (text : List Seen → List ℕ) (input : Side S) (out : Side O) (notes : Side N) (s : AStatus)
         → IsBadCapture (given input) → MeasuredEnds text input out notes s
         → IsAmong s (Status.BadCapture ∷ Status.ReadFault ∷ Status.Memory ∷ []) }
+    ensures import_refuses { (input : Side S) (out : Side O) (notes : Side N) (s : AStatus)
+        → IsBadCapture (given input) → ImportEnds input out notes s
+        → IsAmong s (Status.BadCapture ∷ Status.ReadFault ∷ Status.Memory ∷ []) }
+    // A capture that makes no profile is called unfit, unless the input fails or there is no memory.
+    ensures unfit_refuses { (input : Side S) (out : Side O) (notes : Side N) (s : AStatus)
+        → IsUnfitCapture (given input) → ImportEnds input out notes s
+        → IsAmong s (Status.Unfit ∷ Status.ReadFault ∷ Status.Memory ∷ []) }
     // An input that breaks a bound makes a bad session, unless the input, the output or the notes fail or there is no memory.
     ensures session_breaks { (input : Side S) (out : Side O) (notes : Side N) (s : AStatus)
         → IsBroken (given input) → SessionEnds input out notes s

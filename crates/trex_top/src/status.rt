@@ -19,6 +19,8 @@ pub enum Status {
     BadCapture = 7,
     /// There was no memory.
     Memory = 8,
+    /// The capture that was to be imported makes no profile.
+    Unfit = 9,
     /// The input of a session breaks a bound.
     BadSession = 10,
 }

@@ -5,7 +5,7 @@ use Rattle.std.specs.Str.Parse.{digits_value}
 use Rattle.std.proofs.lemmas.Slice.Eq.{bytes_eq-Decides}
 use Rattle.std.proofs.lemmas.Bool.Decides.{nat_tests}
 use Rattle.trex_words.specs.declared.command.Command.{Command}
-use Rattle.trex_words.specs.declared.command.Command.TheVariants.{Run, Check, Analyze, Sample, Wire, Session, Help}
+use Rattle.trex_words.specs.declared.command.Command.TheVariants.{Run, Check, Analyze, Sample, Import, Wire, Session, Help}
 use Rattle.trex_words.specs.declared.options.Limits.{Limits}
 use Rattle.trex_words.specs.declared.asked.Usage.TheVariants.{Repeated, NoValue, BadNumber, OutOfRange}
 use Rattle.trex_words.specs.Asked.{Options, schedule_options, options_of, limits_of, word, option_at, value_place, option_fault, pair_fault, fault_of, is_number, is_within}
@@ -77,6 +77,7 @@ greatest_fits Sample name l e =
     some_greatest (bytes_eq name (codes "--seed")) _ _ l (omega arith)
     (some_greatest (bytes_eq name (codes "--streams")) _ _ l (omega arith) (schedule_fits name l))
     e
+greatest_fits Import name l e = cc
 greatest_fits Wire name l e =
     some_greatest (bytes_eq name (codes "--seed")) _ _ l (omega arith)
     (some_greatest (bytes_eq name (codes "--loss")) _ _ l (omega arith)

@@ -11,6 +11,8 @@ pub enum Asked {
     Analyze,
     /// Sum up the capture of a sample profile.
     Sample(SampleAsk),
+    /// Make a profile of a capture.
+    Import,
     /// Measure what a simulated wire gives of a capture.
     Wire(WireAsk),
     /// Hold a session of stream commands.

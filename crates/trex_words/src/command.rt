@@ -10,6 +10,7 @@ pub enum Command {
     Check,
     Analyze,
     Sample,
+    Import,
     Wire,
     Session,
     Help,
@@ -27,6 +28,8 @@ pub fn command_of(word: &str) -> Option<Command>
         Some(Command::Analyze)
     } else if word == "sample" {
         Some(Command::Sample)
+    } else if word == "import" {
+        Some(Command::Import)
     } else if word == "wire" {
         Some(Command::Wire)
     } else if word == "session" {

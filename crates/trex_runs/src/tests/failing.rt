@@ -32,7 +32,11 @@ const FIVE_LINES: &[u8] =
     b"flow 7 received 5 duplicates 1 lost 2 reordered 1 early 0 least 1000 greatest 5000 sum 15000\n\
 records 5 bytes 80 stamped 5\n";
 
-/// What a wire measures of it that copies each record.
+/// The profile of the capture of thirds of a second.
+const ENTRIES: &[u8] =
+    br#"[{"stream":{"isg":"0.000","mode":{"rate":{"type":"pps","value":"1000000000"},"total_pkts":"1","type":"single_burst"},"packet":{"binary":"AgAAAAACAgAAAAABiLU="}},"stream_id":"1"},{"stream":{"isg":"333333.333","mode":{"rate":{"type":"pps","value":"1000000000"},"total_pkts":"1","type":"single_burst"},"packet":{"binary":"AgAAAAACAgAAAAABiLU="}},"stream_id":"2"},{"stream":{"isg":"666666.666","mode":{"rate":{"type":"pps","value":"1000000000"},"total_pkts":"1","type":"single_burst"},"packet":{"binary":"AgAAAAACAgAAAAABiLU="}},"stream_id":"3"}]"#;
+
+/// What a wire that copies each record measures of the five packets.
 const TWICE_LINES: &[u8] =
     b"flow 7 received 10 duplicates 6 lost 2 reordered 1 early 0 least 1000 greatest 5000 sum 30000\n\
 records 10 bytes 160 stamped 10\n\
@@ -45,6 +49,7 @@ const HELP: &[u8] = b"trex run [--duration n] [--limit n] [--cores n] [--base n]
 trex check\n\
 trex analyze\n\
 trex sample --seed n [--streams n] [--duration n] [--limit n] [--cores n]\n\
+trex import\n\
 trex wire --seed n [--loss n] [--copy n] [--delay n]\n\
 trex help\n";
 
@@ -58,7 +63,7 @@ struct Case<'a> {
 }
 
 // One read more than there are bytes, since the end is read too.
-const CASES: [Case<'static>; 6] = [
+const CASES: [Case<'static>; 7] = [
     Case {
         line: "run",
         input: THIRDS,
@@ -85,6 +90,13 @@ const CASES: [Case<'static>; 6] = [
         input: b"[",
         reads: 0,
         out: SAMPLE,
+        notes: b"",
+    },
+    Case {
+        line: "import",
+        input: CAPTURE,
+        reads: 115,
+        out: ENTRIES,
         notes: b"",
     },
     Case {

@@ -2,12 +2,11 @@
 -- pcap 2.4.
 use Rattle.std.specs.Prelude.{ℕ, List}
 use Rattle.trex_io.specs.Seen.{Seen}
-use Rattle.trex_measure.specs.Measured.{HasFault, OnCapture}
-use Rattle.trex_pcap.specs.declared.fault.CaptureFault.{CaptureFault}
-use Rattle.trex_report.specs.declared.line.Line.TheVariants.{BadCapture as BadCaptureLine, WriteFault}
+use Rattle.trex_measure.specs.Measured.{OnCapture}
+use Rattle.trex_report.specs.declared.line.Line.TheVariants.{WriteFault}
 use Rattle.trex_top.specs.declared.status.Status.{Status}
 use Rattle.trex_top.specs.declared.status.Status.TheVariants.{Done, ReadFault, BadCapture, OutFault, Memory}
-use Rattle.trex_top.specs.Rows.{Says, CannotRead, NoMemory}
+use Rattle.trex_top.specs.Rows.{BreaksFormat, CannotRead, NoMemory}
 use Rattle.trex_top.specs.Sides.{Side, Kept, Failed, given, AtEnd, Got, GotPart, GotLine}
 
 module _ {S O N : Type 0} where
@@ -15,7 +14,7 @@ module _ {S O N : Type 0} where
   -- the whole text of the capture's records
   MeasuredEnds text input out notes Done = OnCapture (given input) (λ rs. Got out (text rs)) × AtEnd input × Kept notes
   -- the line of the capture's fault
-  MeasuredEnds text input out notes BadCapture = (e : CaptureFault) × HasFault (given input) e × Says out notes (BadCaptureLine e)
+  MeasuredEnds text input out notes BadCapture = BreaksFormat input out notes
   MeasuredEnds text input out notes ReadFault = CannotRead input out notes
   -- a part of the text
   MeasuredEnds text input out notes OutFault = OnCapture (given input) (λ rs. GotPart out (text rs)) × Failed out × GotLine notes WriteFault
