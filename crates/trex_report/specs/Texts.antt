@@ -15,7 +15,7 @@ use Rattle.trex_words.specs.declared.asked.Usage.{Usage}
 use Rattle.trex_words.specs.declared.asked.Usage.TheVariants.{NoCommand, UnknownCommand, UnknownOption, Repeated, NoValue, BadNumber, OutOfRange, Missing}
 use Rattle.trex_report.specs.declared.report.Tally.{Tally}
 use Rattle.trex_report.specs.declared.line.Line.{Line}
-use Rattle.trex_report.specs.declared.line.Line.TheVariants.{Accepted, Usage as UsageLine, Refused, BadCapture, Unfit as UnfitLine, ReadFault, WriteFault, OutOfMemory, Sample, Wire}
+use Rattle.trex_report.specs.declared.line.Line.TheVariants.{Accepted, Usage as UsageLine, Refused, BadCapture, Unfit as UnfitLine, ReadFault, WriteFault, OutOfMemory, Sample, Wire, LineTooLong, TooMuch}
 use Rattle.trex_report.specs.Names.{fault_name, unfit_name, rule_name, option_name}
 
 -- how many packets, and of how many bytes
@@ -158,6 +158,10 @@ wire_line sent lost copied arrived =
     ++ codes " arrived " ++ decimal arrived
     ++ codes "\n"
 
+-- a bound that the input of a session breaks, and the line where it does
+unfoldable pub session_line : List ℕ → ℕ → List ℕ
+session_line name line = concat (codes "bad session: " ∷ name ∷ codes " line " ∷ decimal line ∷ codes "\n" ∷ [])
+
 -- a line by itself
 abbrev pub line_text : Line → List ℕ
 line_text (Accepted streams) = accepted_line streams
@@ -170,3 +174,5 @@ line_text WriteFault = codes "write fault\n"
 line_text OutOfMemory = codes "out of memory\n"
 line_text (Sample seed streams packets bytes sum) = sample_line seed streams packets bytes sum
 line_text (Wire sent lost copied arrived) = wire_line sent lost copied arrived
+line_text (LineTooLong line) = session_line (codes "LineTooLong") line
+line_text (TooMuch line) = session_line (codes "TooMuch") line

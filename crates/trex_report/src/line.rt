@@ -1,7 +1,7 @@
 // The lines that are printed by themselves.
 
 ghost use Rattle.trex_io.specs.Texts.{Writes};
-ghost use Rattle.trex_report.specs.Texts.{accepted_line, line_text};
+ghost use Rattle.trex_report.specs.Texts.{accepted_line, line_text, session_line};
 
 use crate::capture::{write_bad_capture, write_unfit};
 use crate::refusal::write_refusal;
@@ -44,6 +44,14 @@ pub enum Line {
         bytes: u64,
         sum: u16,
     },
+    /// A line of the input of a session, counted from 1, is too long.
+    LineTooLong {
+        line: u64,
+    },
+    /// The input of a session has too many bytes, the first of them in this line, counted from 1.
+    TooMuch {
+        line: u64,
+    },
     /// What a simulated wire did: how many records it was sent, how many of them it lost and how many it copied, and how many copies
     /// arrived.
     Wire {
@@ -70,6 +78,23 @@ fn write_accepted<O: Sink>(to: &mut O, streams: u64) -> Result<(), Failed>
     )
 }
 
+/// Writes which bound the input of a session breaks, and in which line.
+fn write_bad_session<O: Sink>(to: &mut O, name: &str, line: u64) -> Result<(), Failed>
+    ensures { Writes O.held O.faults to.old to.new result (session_line name.now line) }
+{
+    let mut place = Buffer::new();
+    write_pieces(
+        to,
+        &[
+            b"bad session: ",
+            name.as_bytes(),
+            b" line ",
+            place.format(line).as_bytes(),
+            b"\n",
+        ],
+    )
+}
+
 /// Writes a line.
 pub fn write_line<O: Sink>(to: &mut O, which: Line) -> Result<(), Failed>
     ensures { Writes O.held O.faults to.old to.new result (line_text which) }
@@ -90,6 +115,8 @@ pub fn write_line<O: Sink>(to: &mut O, which: Line) -> Result<(), Failed>
             bytes,
             sum,
         } => write_sample(to, seed, streams, packets, bytes, sum),
+        Line::LineTooLong { line } => write_bad_session(to, "LineTooLong", line),
+        Line::TooMuch { line } => write_bad_session(to, "TooMuch", line),
         Line::Wire {
             sent,
             lost,

@@ -5,8 +5,8 @@ use Rattle.std.proofs.lemmas.Slice.Eq.{bytes_eq-Decides}
 use Rattle.trex_rpc.specs.declared.bound.Bound.TheVariants.{LineTooLong, TooMuch}
 use Rattle.trex_rpc.specs.declared.bound.TheConstants.{MOST_BYTES}
 use Rattle.trex_rpc.specs.declared.line_reader.TheConstants.{LONGEST_LINE}
-use Rattle.trex_rpc.specs.declared.talking.Judged.{Judged}
-use Rattle.trex_rpc.specs.declared.talking.Judged.TheVariants.{Quits, Breaks, Goes}
+use Rattle.trex_rpc.specs.declared.judging.Judged.{Judged}
+use Rattle.trex_rpc.specs.declared.judging.Judged.TheVariants.{Quits, Breaks, Goes}
 use Rattle.trex_rpc.specs.Heard.{Heard, cut, heard_from, heard_line, is_end, is_quit, judged, line_of, piece_of, silence}
 use Rattle.trex_rpc.specs.Lines.{NoFeed}
 use Rattle.trex_rpc.proofs.PieceLemmas.{concat-cut, cut-front, cut-piece, line_of-piece}

@@ -2,4 +2,4 @@ mod FeedLemmas
 mod PieceLemmas
 mod HeardLemmas
 mod AlongLemmas
-mod TalkLemmas
+pub mod TalkLemmas

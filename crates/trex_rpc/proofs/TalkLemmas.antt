@@ -16,8 +16,8 @@ use Rattle.trex_rpc.specs.declared.line_reader.TheConstants.{LONGEST_LINE}
 use Rattle.trex_rpc.specs.declared.stop.Stop.TheVariants.{Bad}
 use Rattle.trex_rpc.specs.declared.stop.Unanswered.{Unanswered}
 use Rattle.trex_rpc.specs.declared.stop.Unanswered.TheVariants.{OutFault, NotesFault, Memory as NoMemory}
-use Rattle.trex_rpc.specs.declared.talking.Judged.{Judged}
-use Rattle.trex_rpc.specs.declared.talking.Judged.TheVariants.{Quits, Breaks, Goes}
+use Rattle.trex_rpc.specs.declared.judging.Judged.{Judged}
+use Rattle.trex_rpc.specs.declared.judging.Judged.TheVariants.{Quits, Breaks, Goes}
 use Rattle.trex_rpc.specs.Heard.{Heard, cut, heard, heard_from, is_end, is_quit, judged, piece_of, silence, unheard}
 use Rattle.trex_rpc.specs.Lines.{GivesLine}
 use Rattle.trex_rpc.specs.Table.{Table}

@@ -10,8 +10,8 @@ use Rattle.trex_rpc.specs.declared.line_reader.LineFault.TheVariants.{Fault, Mem
 use Rattle.trex_rpc.specs.declared.line_reader.TheConstants.{LONGEST_LINE}
 use Rattle.trex_rpc.specs.declared.stop.Stop.{Stop}
 use Rattle.trex_rpc.specs.declared.stop.Stop.TheVariants.{ReadFault, Memory as NoMemory, Bad}
-use Rattle.trex_rpc.specs.declared.talking.Judged.{Judged}
-use Rattle.trex_rpc.specs.declared.talking.Judged.TheVariants.{Quits, Breaks, Goes}
+use Rattle.trex_rpc.specs.declared.judging.Judged.{Judged}
+use Rattle.trex_rpc.specs.declared.judging.Judged.TheVariants.{Quits, Breaks, Goes}
 use Rattle.trex_rpc.specs.Lines.{is_feed}
 
 -- a byte before the first of these pieces

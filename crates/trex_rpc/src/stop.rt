@@ -1,5 +1,8 @@
 // Why a session stops.
 
+ghost use Rattle.std.specs.Prelude.{◌≡◌};
+ghost use Rattle.trex_rpc.specs.Written.{stop_of};
+
 use crate::bound::Bound;
 
 /// Why a line wasn't answered.
@@ -26,4 +29,15 @@ pub enum Stop {
     Memory,
     /// The input breaks a bound in this line, counted from 1.
     Bad { bound: Bound, line: u64 },
+}
+
+/// An answer that failed as the stop of its session.
+pub fn stop_of(fault: Unanswered) -> Stop
+    ensures { result ≡ stop_of fault }
+{
+    match fault {
+        Unanswered::OutFault => Stop::OutFault,
+        Unanswered::NotesFault => Stop::NotesFault,
+        Unanswered::Memory => Stop::Memory,
+    }
 }

@@ -1,5 +1,5 @@
 -- What follows from the tables of the commands: a row for each status that has something to say.
-use Rattle.std.proofs.Common.{◌≡◌, ℕ, inl, inr, ◌↔◌, true, false, List, [], ◌∷◌, Option, Some, None, Result, Ok, Err, IsErr, refl, sym, subst, ◌∙◌}
+use Rattle.std.proofs.Common.{◌≡◌, ℕ, inl, inr, ◌↔◌, true, false, List, [], ◌∷◌, Option, Some, None, Result, Ok, Err, IfSome, IsErr, refl, sym, subst, ◌∙◌}
 use Rattle.trex_crew.specs.Told.{IfTold}
 use Rattle.trex_import.specs.Fit.{unfit_of}
 use Rattle.trex_io.specs.Seen.{Seen}
@@ -15,8 +15,8 @@ use Rattle.trex_words.specs.declared.asked.RunAsk.{RunAsk}
 use Rattle.trex_words.specs.declared.asked.SampleAsk.{SampleAsk}
 use Rattle.trex_words.specs.declared.asked.Usage.{Usage as WordsFault}
 use Rattle.trex_top.specs.declared.status.Status.{Status}
-use Rattle.trex_top.specs.declared.status.Status.TheVariants.{Done, Usage, Refused, ReadFault, OutFault, NotesFault, BadCapture, Memory, Unfit}
-use Rattle.trex_top.specs.Endings.{EntersGates, HasItsCause, IsAmong, IsBadCapture, IsFitCapture, IsGoodCapture, IsProfile, IsRefused, IsUnfitCapture, LeavesOutput, Suits}
+use Rattle.trex_top.specs.declared.status.Status.TheVariants.{Done, Usage, Refused, ReadFault, OutFault, NotesFault, BadCapture, Memory, Unfit, BadSession}
+use Rattle.trex_top.specs.Endings.{EntersGates, HasItsCause, IsAmong, IsBadCapture, IsFitCapture, IsBroken, IsGoodCapture, IsProfile, IsRefused, IsUnfitCapture, IsUnbroken, Leaves, LeavesOutput, Suits}
 use Rattle.trex_top.specs.Ends.{Ends}
 use Rattle.trex_top.specs.Ends.Check.{CheckEnds}
 use Rattle.trex_top.specs.Ends.Help.{HelpEnds}
@@ -24,7 +24,10 @@ use Rattle.trex_top.specs.Ends.Import.{ImportEnds}
 use Rattle.trex_top.specs.Ends.Measured.{MeasuredEnds}
 use Rattle.trex_top.specs.Ends.Run.{RunEnds}
 use Rattle.trex_top.specs.Ends.Sample.{SampleEnds}
+use Rattle.trex_top.specs.Ends.Session.{SessionEnds}
 use Rattle.trex_report.specs.Texts.{analysis_text}
+use Rattle.trex_rpc.specs.declared.bound.Bound.{Bound}
+use Rattle.trex_rpc.specs.Heard.{heard}
 use Rattle.trex_run.specs.Rounds.{AreRounds}
 use Rattle.trex_run.proofs.RoundsLemmas.{tell_no_rounds}
 use Rattle.trex_top.specs.Rows.{HasVerdict}
@@ -112,7 +115,7 @@ module _ {S O N : Type 0} (input : Side S) (out : Side O) (notes : Side N) where
   help_causes NotesFault e = absurd e
   help_causes _ e = tt
 
-  check_leaves : (s : Status) → CheckEnds input out notes s → LeavesOutput out s
+  check_leaves : (s : Status) → CheckEnds input out notes s → Leaves out s
   check_leaves Done e = tt
   check_leaves OutFault e = tt
   check_leaves Refused e = e.2.0
@@ -120,7 +123,7 @@ module _ {S O N : Type 0} (input : Side S) (out : Side O) (notes : Side N) where
   check_leaves Memory e = e.0
   check_leaves _ e = absurd e
 
-  measured_leaves : (text : List Seen → List ℕ) (s : Status) → MeasuredEnds text input out notes s → LeavesOutput out s
+  measured_leaves : (text : List Seen → List ℕ) (s : Status) → MeasuredEnds text input out notes s → Leaves out s
   measured_leaves text Done e = tt
   measured_leaves text OutFault e = tt
   measured_leaves text BadCapture e = e.2.0
@@ -128,7 +131,7 @@ module _ {S O N : Type 0} (input : Side S) (out : Side O) (notes : Side N) where
   measured_leaves text Memory e = e.0
   measured_leaves text _ e = absurd e
 
-  import_leaves : (s : Status) → ImportEnds input out notes s → LeavesOutput out s
+  import_leaves : (s : Status) → ImportEnds input out notes s → Leaves out s
   import_leaves Done e = tt
   import_leaves OutFault e = tt
   import_leaves Unfit e = e.3.0
@@ -137,7 +140,7 @@ module _ {S O N : Type 0} (input : Side S) (out : Side O) (notes : Side N) where
   import_leaves Memory e = e.0
   import_leaves _ e = absurd e
 
-  help_leaves : (s : Status) → HelpEnds out notes s → LeavesOutput out s
+  help_leaves : (s : Status) → HelpEnds out notes s → Leaves out s
   help_leaves Done e = tt
   help_leaves OutFault e = tt
   help_leaves _ e = absurd e
@@ -214,6 +217,47 @@ module _ {S O N : Type 0} (input : Side S) (out : Side O) (notes : Side N) where
     help_completes OutFault e = absurd (wrote e.0)
     help_completes _ e = absurd e
 
+-- ---- a session
+
+-- an input without a bound that is broken breaks none
+unbroken-apart : (input : Option (List ℕ)) (P Q : List ℕ → Bound → Type 0) → IsUnbroken input
+    → IfSome input (λ text. (bound : Bound) × ((heard text).broken ≡ Some bound) × P text bound × Q text bound) → ⊥
+unbroken-apart None P Q unbroken broken = unbroken
+unbroken-apart (Some text) P Q unbroken broken = let e : Some broken.0 ≡ None = sym broken.1 ∙ unbroken in absurd (cc)
+
+-- an input with a bound that is broken isn't heard to its end
+broken-apart : (input : Option (List ℕ)) (P : List ℕ → Type 0) → ((text : List ℕ) → P text → (heard text).broken ≡ None) → IsBroken input → IfSome input P → ⊥
+broken-apart None P ended broken e = broken
+broken-apart (Some text) P ended broken e = let h : Some broken.0 ≡ None = sym broken.1 ∙ ended text e in absurd (cc)
+
+module _ {S O N : Type 0} (input : Side S) (out : Side O) (notes : Side N) where
+  session_causes : (s : Status) → SessionEnds input out notes s → HasItsCause input out notes s
+  session_causes ReadFault e = e.0
+  session_causes OutFault e = e.0
+  session_causes NotesFault e = e.0
+  session_causes _ e = tt
+
+  -- an input that breaks a bound makes a bad session
+  pub session_breaks : (s : Status) → IsBroken (given input) → SessionEnds input out notes s
+      → IsAmong s (BadSession ∷ ReadFault ∷ OutFault ∷ NotesFault ∷ Memory ∷ [])
+  session_breaks BadSession broken e = inl refl
+  session_breaks ReadFault broken e = inr (inl refl)
+  session_breaks OutFault broken e = inr (inr (inl refl))
+  session_breaks NotesFault broken e = inr (inr (inr (inl refl)))
+  session_breaks Memory broken e = inr (inr (inr (inr (inl refl))))
+  session_breaks Done broken e = absurd (broken-apart (given input) _ (λ text spoken. spoken.unbroken) broken e)
+  session_breaks _ broken e = absurd e
+
+  -- where nothing fails, a session without such a bound is done
+  session_completes : ¬ Failed input → ¬ Failed out → ¬ Failed notes → (s : Status) → IsUnbroken (given input) → SessionEnds input out notes s → IsAmong s (Done ∷ Memory ∷ [])
+  session_completes read wrote noted Done unbroken e = inl refl
+  session_completes read wrote noted Memory unbroken e = inr (inl refl)
+  session_completes read wrote noted ReadFault unbroken e = absurd (read e.0)
+  session_completes read wrote noted OutFault unbroken e = absurd (wrote e.0)
+  session_completes read wrote noted NotesFault unbroken e = absurd (noted e.0)
+  session_completes read wrote noted BadSession unbroken e = absurd (unbroken-apart (given input) _ _ unbroken e)
+  session_completes read wrote noted _ unbroken e = absurd e
+
 -- ---- a run and a sample, and then all commands
 
 module _ {S O N G : Type 0} (input : Side S) (out : Side O) (notes : Side N) (gates : GateSide G) where
@@ -225,6 +269,7 @@ module _ {S O N G : Type 0} (input : Side S) (out : Side O) (notes : Side N) (ga
   never_usage (ask.Sample a) e = e.0
   never_usage ask.Import e = e.0
   never_usage (ask.Wire a) e = e.0
+  never_usage ask.Session e = e
   never_usage ask.Help e = e.0
 
   -- words without a meaning end with it
@@ -253,9 +298,10 @@ module _ {S O N G : Type 0} (input : Side S) (out : Side O) (notes : Side N) (ga
   causes (Ok (ask.Sample a)) s e = sample_causes a s e.0
   causes (Ok ask.Import) s e = import_causes input out notes s e.0
   causes (Ok (ask.Wire a)) s e = measured_causes input out notes (wire_text a) s e.0
+  causes (Ok ask.Session) s e = session_causes input out notes s e
   causes (Ok ask.Help) s e = help_causes input out notes s e.0
 
-  run_leaves : (a : RunAsk) (s : Status) → RunEnds a input out notes gates s → LeavesOutput out s
+  run_leaves : (a : RunAsk) (s : Status) → RunEnds a input out notes gates s → Leaves out s
   run_leaves a Done e = tt
   run_leaves a OutFault e = tt
   run_leaves a NotesFault e = tt
@@ -264,21 +310,22 @@ module _ {S O N G : Type 0} (input : Side S) (out : Side O) (notes : Side N) (ga
   run_leaves a Memory e = e.0.0
   run_leaves a _ e = absurd e
 
-  sample_leaves : (a : SampleAsk) (s : Status) → SampleEnds a out notes gates s → LeavesOutput out s
+  sample_leaves : (a : SampleAsk) (s : Status) → SampleEnds a out notes gates s → Leaves out s
   sample_leaves a Done e = tt
   sample_leaves a OutFault e = tt
   sample_leaves a Memory e = e.0.0
   sample_leaves a _ e = absurd e
 
   -- before the first write the output is left alone
-  pub leaves : (a : Result Asked WordsFault) (s : Status) → Ends a input out notes gates s → LeavesOutput out s
-  leaves (Err u) s e = subst (LeavesOutput out) (sym e.0) e.1.0
+  pub leaves : (a : Result Asked WordsFault) (s : Status) → Ends a input out notes gates s → LeavesOutput a out s
+  leaves (Err u) s e = subst (Leaves out) (sym e.0) e.1.0
   leaves (Ok (ask.Run a)) s e = run_leaves a s e
   leaves (Ok ask.Check) s e = check_leaves input out notes s e.0
   leaves (Ok ask.Analyze) s e = measured_leaves input out notes analysis_text s e.0
   leaves (Ok (ask.Sample a)) s e = sample_leaves a s e.0
   leaves (Ok ask.Import) s e = import_leaves input out notes s e.0
   leaves (Ok (ask.Wire a)) s e = measured_leaves input out notes (wire_text a) s e.0
+  leaves (Ok ask.Session) s e = tt
   leaves (Ok ask.Help) s e = help_leaves input out notes s e.0
 
   -- where no gate was entered, those that tell were entered for no round
@@ -310,6 +357,7 @@ module _ {S O N G : Type 0} (input : Side S) (out : Side O) (notes : Side N) (ga
   rounds (Ok (ask.Sample a)) s e = sample_rounds a s e.0
   rounds (Ok ask.Import) s e = e.1
   rounds (Ok (ask.Wire a)) s e = e.1
+  rounds (Ok ask.Session) s e = tt
   rounds (Ok ask.Help) s e = e.2
 
   -- a profile that breaks a rule is refused
@@ -346,4 +394,5 @@ module _ {S O N G : Type 0} (input : Side S) (out : Side O) (notes : Side N) (ga
     completes (ask.Sample a) s suits e = sample_completes a s e.0
     completes ask.Import s suits e = import_completes input out notes one read wrote s suits e.0
     completes (ask.Wire a) s suits e = measured_completes input out notes one read wrote (wire_text a) s suits e.0
+    completes ask.Session s suits e = session_completes input out notes read wrote noted s suits e
     completes ask.Help s suits e = help_completes input out notes one read wrote s e.0

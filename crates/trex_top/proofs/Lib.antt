@@ -1,3 +1,4 @@
 mod Lines
 mod TooLong
 mod EndsLemmas
+mod SessionLemmas

@@ -9,8 +9,10 @@ use Rattle.trex_pcap.specs.declared.unfit.Unfit.{Unfit as WhyUnfit}
 use Rattle.trex_pcap.specs.Reading.{IsCapture}
 use Rattle.trex_profile.specs.declared.refusal.Refusal.{Refusal}
 use Rattle.trex_profile.specs.Stream.{Stream}
+use Rattle.trex_rpc.specs.declared.bound.Bound.{Bound}
+use Rattle.trex_rpc.specs.Heard.{heard}
 use Rattle.trex_words.specs.declared.asked.Asked.{Asked}
-use Rattle.trex_words.specs.declared.asked.Asked.TheVariants.{Run, Check, Analyze, Sample, Import, Wire, Help}
+use Rattle.trex_words.specs.declared.asked.Asked.TheVariants.{Run, Check, Analyze, Sample, Import, Wire, Session, Help}
 use Rattle.trex_words.specs.declared.asked.Usage.{Usage as WordsFault}
 use Rattle.trex_top.specs.declared.status.Status.{Status}
 use Rattle.trex_top.specs.declared.status.Status.TheVariants.{Done, ReadFault, OutFault, NotesFault}
@@ -51,6 +53,16 @@ abbrev pub IsUnfitCapture : Option (List ℕ) → Type 0
 IsUnfitCapture None = ⊥
 IsUnfitCapture (Some text) = (rs : List Seen) × (u : WhyUnfit) × IsCapture text rs None × (unfit_of rs ≡ Some u)
 
+-- the text is told, and breaks no bound of sessions
+abbrev pub IsUnbroken : Option (List ℕ) → Type 0
+IsUnbroken None = ⊥
+IsUnbroken (Some text) = (heard text).broken ≡ None
+
+-- the text is told, and breaks a bound of sessions
+abbrev pub IsBroken : Option (List ℕ) → Type 0
+IsBroken None = ⊥
+IsBroken (Some text) = (bound : Bound) × ((heard text).broken ≡ Some bound)
+
 -- the input is what the request is for
 abbrev pub Suits : Asked → Option (List ℕ) → Type 0
 Suits (Run ask) text = IsProfile text
@@ -59,6 +71,7 @@ Suits Analyze text = IsGoodCapture text
 Suits (Sample ask) text = Unit {0}
 Suits Import text = IsFitCapture text
 Suits (Wire ask) text = IsGoodCapture text
+Suits Session text = IsUnbroken text
 Suits Help text = Unit {0}
 
 module _ {S O N : Type 0} where
@@ -71,15 +84,21 @@ module _ {S O N : Type 0} where
 
 module _ {O : Type 0} where
   -- but for the statuses that come after the first write, the output is left alone
-  abbrev pub LeavesOutput : Side O → Status → Type 0
-  LeavesOutput out Done = Unit {0}
-  LeavesOutput out OutFault = Unit {0}
-  LeavesOutput out NotesFault = Unit {0}
-  LeavesOutput out _ = Kept out
+  abbrev pub Leaves : Side O → Status → Type 0
+  Leaves out Done = Unit {0}
+  Leaves out OutFault = Unit {0}
+  Leaves out NotesFault = Unit {0}
+  Leaves out _ = Kept out
+
+  -- the same, but for a session, which writes before it ends
+  abbrev pub LeavesOutput : Result Asked WordsFault → Side O → Status → Type 0
+  LeavesOutput (Ok Session) out s = Unit {0}
+  LeavesOutput _ out s = Leaves out s
 
 module _ {G : Type 0} where
-  -- the gates are entered for whole rounds of the cores that are asked for, and for nothing else
+  -- the gates are entered for whole rounds of the cores that are asked for, and for nothing else; nothing is said of a session
   abbrev pub EntersGates : Result Asked WordsFault → GateSide G → Type 0
   EntersGates (Ok (Run ask)) gates = Rounds gates ask.cores
   EntersGates (Ok (Sample ask)) gates = Rounds gates ask.run.cores
+  EntersGates (Ok Session) gates = Unit {0}
   EntersGates _ gates = Unentered gates

@@ -6,6 +6,7 @@ pub mod Analyze
 pub mod Sample
 pub mod Import
 pub mod Wire
+pub mod Session
 pub mod Help
 use Rattle.std.specs.Prelude.{◌≡◌, Result, Ok, Err}
 use Rattle.trex_report.specs.declared.line.Line.TheVariants.{Usage as UsageLine}
@@ -20,6 +21,7 @@ use Rattle.trex_top.specs.Ends.Analyze.{AnalyzeEnds}
 use Rattle.trex_top.specs.Ends.Sample.{SampleEnds}
 use Rattle.trex_top.specs.Ends.Import.{ImportEnds}
 use Rattle.trex_top.specs.Ends.Wire.{WireEnds}
+use Rattle.trex_top.specs.Ends.Session.{SessionEnds}
 use Rattle.trex_top.specs.Ends.Help.{HelpEnds}
 use Rattle.trex_top.specs.Rows.{Says}
 use Rattle.trex_top.specs.Sides.{Side, GateSide, Kept, Unentered}
@@ -34,4 +36,5 @@ module _ {S O N G : Type 0} where
   Ends (Ok (ask.Sample a)) input out notes gates s = SampleEnds a out notes gates s × Kept input
   Ends (Ok ask.Import) input out notes gates s = ImportEnds input out notes s × Unentered gates
   Ends (Ok (ask.Wire a)) input out notes gates s = WireEnds a input out notes s × Unentered gates
+  Ends (Ok ask.Session) input out notes gates s = SessionEnds input out notes s
   Ends (Ok ask.Help) input out notes gates s = HelpEnds out notes s × Kept input × Unentered gates

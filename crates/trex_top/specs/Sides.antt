@@ -1,5 +1,5 @@
 -- A source, a sink and the gates over a call. The tables of the commands speak of them. Own.
-use Rattle.std.specs.Prelude.{◌≡◌, ℕ, List, Option}
+use Rattle.std.specs.Prelude.{◌≡◌, ℕ, List, ◌++◌, take, Option}
 use Rattle.std.specs.Io.KnownBytes.{IsAtEnd}
 use Rattle.trex_crew.specs.Told.{IfTold}
 use Rattle.trex_io.specs.Faults.{Rises}
@@ -34,6 +34,11 @@ pub record Tells {K : Type 0} (held : K → Option (List ℕ)) (faults : K → �
   pub prefix : WrotePrefix held old new line
   pub whole : ¬ Rises faults old new → Wrote held old new line
 
+-- A text was written, and then a line on whose failing nothing hangs.
+pub record TellsAfter {K : Type 0} (held : K → Option (List ℕ)) (faults : K → ℕ) (old new : K) (text line : List ℕ) : Type 0 where
+  pub prefix : (n : ℕ) × Wrote held old new (text ++ take n line)
+  pub whole : ¬ Rises faults old new → Wrote held old new (text ++ line)
+
 module _ {K : Type 0} where
   -- it was left alone
   abbrev pub Kept : Side K → Type 0
@@ -59,9 +64,21 @@ module _ {K : Type 0} where
   abbrev pub GotPart : Side K → List ℕ → Type 0
   GotPart s text = WrotePart s.bytes s.old s.new text
 
+  -- a sink got a prefix of the text, perhaps the whole
+  abbrev pub GotPrefix : Side K → List ℕ → Type 0
+  GotPrefix s text = WrotePrefix s.bytes s.old s.new text
+
   -- a sink got a line on whose failing nothing hangs
   abbrev pub GotLine : Side K → Line → Type 0
   GotLine s line = Tells s.bytes s.faults s.old s.new (line_text line)
+
+  -- a sink got a text and then such a line
+  abbrev pub GotThen : Side K → List ℕ → Line → Type 0
+  GotThen s text line = TellsAfter s.bytes s.faults s.old s.new text (line_text line)
+
+  -- a sink got a prefix of a text and then such a line
+  abbrev pub GotSomeThen : Side K → List ℕ → Line → Type 0
+  GotSomeThen s text line = (n : ℕ) × GotThen s (take n text) line
 
 module _ {G : Type 0} where
   -- no gate was entered

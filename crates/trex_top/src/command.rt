@@ -11,6 +11,7 @@ use crate::commands::help::help;
 use crate::commands::import::import;
 use crate::commands::run::run;
 use crate::commands::sample::sample;
+use crate::commands::session::session;
 use crate::commands::wire::wire;
 use crate::saying::tell;
 use crate::status::Status;
@@ -48,6 +49,7 @@ pub fn trex_main<R: Threads + Sync, S: Source, O: Sink, N: Sink, G: Gate>(
         Ok(Asked::Sample(ask)) => sample(rt, alloc, &ask, out, notes, gates),
         Ok(Asked::Import) => import(alloc, input, out, notes),
         Ok(Asked::Wire(ask)) => wire(alloc, &ask, input, out, notes),
+        Ok(Asked::Session) => session(rt, alloc, input, out, notes, gates),
         Ok(Asked::Help) => help(out, notes),
     }
 }

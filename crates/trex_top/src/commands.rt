@@ -6,4 +6,5 @@ pub(crate) mod help;
 pub(crate) mod import;
 pub(crate) mod run;
 pub(crate) mod sample;
+pub(crate) mod session;
 pub(crate) mod wire;

@@ -6,12 +6,13 @@ ghost use Rattle.trex_words.specs.declared.asked.Asked.{Asked as AnAsked};
 ghost use Rattle.trex_words.specs.declared.asked.RunAsk.{RunAsk as ARunAsk};
 ghost use Rattle.trex_words.specs.declared.asked.Usage.{Usage as AUsage};
 ghost use Rattle.trex_top.specs.declared.status.Status.{Status as AStatus};
-ghost use Rattle.trex_top.specs.Endings.{EntersGates, HasItsCause, IsAmong, IsBadCapture, IsRefused, IsUnfitCapture, LeavesOutput, Suits};
+ghost use Rattle.trex_top.specs.Endings.{EntersGates, HasItsCause, IsAmong, IsBadCapture, IsBroken, IsRefused, IsUnfitCapture, LeavesOutput, Suits};
 ghost use Rattle.trex_top.specs.Ends.{Ends};
 ghost use Rattle.trex_top.specs.Ends.Check.{CheckEnds};
 ghost use Rattle.trex_top.specs.Ends.Import.{ImportEnds};
 ghost use Rattle.trex_top.specs.Ends.Measured.{MeasuredEnds};
 ghost use Rattle.trex_top.specs.Ends.Run.{RunEnds};
+ghost use Rattle.trex_top.specs.Ends.Session.{SessionEnds};
 ghost use Rattle.trex_top.specs.Sides.{GateSide, Side, Failed, given};
 
 use crate::status::Status;
@@ -25,9 +26,9 @@ pub fn endings_hold<S, O, N, G>()
     // A fault has its cause, whatever the ends tell.
     ensures causes { (a : Result AnAsked AUsage) (input : Side S) (out : Side O) (notes : Side N) (gates : GateSide G) (s : AStatus)
         → Ends a input out notes gates s → HasItsCause input out notes s }
-    // But for Done, OutFault and NotesFault the output is left alone.
+    // But for Done, OutFault and NotesFault, and but for a session, the output is left alone.
     ensures unwritten { (a : Result AnAsked AUsage) (input : Side S) (out : Side O) (notes : Side N) (gates : GateSide G) (s : AStatus)
-        → Ends a input out notes gates s → LeavesOutput out s }
+        → Ends a input out notes gates s → LeavesOutput a out s }
     // The gates are told of whole rounds, where a run or a sample is asked for; else none is entered.
     ensures rounds { (a : Result AnAsked AUsage) (input : Side S) (out : Side O) (notes : Side N) (gates : GateSide G) (s : AStatus)
         → Ends a input out notes gates s → EntersGates a gates }
@@ -49,6 +50,10 @@ pub fn endings_hold<S, O, N, G>()
     ensures unfit_refuses { (input : Side S) (out : Side O) (notes : Side N) (s : AStatus)
         → IsUnfitCapture (given input) → ImportEnds input out notes s
         → IsAmong s (Status.Unfit ∷ Status.ReadFault ∷ Status.Memory ∷ []) }
+    // An input that breaks a bound makes a bad session, unless the input, the output or the notes fail or there is no memory.
+    ensures session_breaks { (input : Side S) (out : Side O) (notes : Side N) (s : AStatus)
+        → IsBroken (given input) → SessionEnds input out notes s
+        → IsAmong s (Status.BadSession ∷ Status.ReadFault ∷ Status.OutFault ∷ Status.NotesFault ∷ Status.Memory ∷ []) }
     // Where the input is what is asked for and nothing fails, what is asked is done, unless there is no memory.
     ensures complete { (a : AnAsked) (input : Side S) (out : Side O) (notes : Side N) (gates : GateSide G) (s : AStatus)
         → Suits a (given input) → ¬ Failed input → ¬ Failed out → ¬ Failed notes → Ends (Ok a) input out notes gates s

@@ -2,6 +2,7 @@
 #![tactic(auto)]
 
 mod analysis;
+mod answering;
 mod capturing;
 mod command;
 mod commands;
@@ -11,6 +12,7 @@ mod input;
 mod sampling;
 mod saying;
 mod status;
+mod talking;
 
 pub use analysis::{AnalyzeFault, analyze};
 pub use command::trex_main;

@@ -21,4 +21,6 @@ pub enum Status {
     Memory = 8,
     /// The capture that was to be imported makes no profile.
     Unfit = 9,
+    /// The input of a session breaks a bound.
+    BadSession = 10,
 }

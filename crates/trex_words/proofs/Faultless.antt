@@ -5,7 +5,7 @@ use Rattle.std.specs.Str.Parse.{digits_value}
 use Rattle.std.proofs.lemmas.Slice.Eq.{bytes_eq-Decides}
 use Rattle.std.proofs.lemmas.Bool.Decides.{nat_tests}
 use Rattle.trex_words.specs.declared.command.Command.{Command}
-use Rattle.trex_words.specs.declared.command.Command.TheVariants.{Run, Check, Analyze, Sample, Import, Wire, Help}
+use Rattle.trex_words.specs.declared.command.Command.TheVariants.{Run, Check, Analyze, Sample, Import, Wire, Session, Help}
 use Rattle.trex_words.specs.declared.options.Limits.{Limits}
 use Rattle.trex_words.specs.declared.asked.Usage.TheVariants.{Repeated, NoValue, BadNumber, OutOfRange}
 use Rattle.trex_words.specs.Asked.{Options, schedule_options, options_of, limits_of, word, option_at, value_place, option_fault, pair_fault, fault_of, is_number, is_within}
@@ -84,4 +84,5 @@ greatest_fits Wire name l e =
     (some_greatest (bytes_eq name (codes "--copy")) _ _ l (omega arith)
     (some_greatest (bytes_eq name (codes "--delay")) _ _ l (omega arith) (λ none. cc))))
     e
+greatest_fits Session name l e = cc
 greatest_fits Help name l e = cc

@@ -9,9 +9,9 @@ use Rattle.trex_words.specs.declared.asked.RunAsk.{RunAsk}
 use Rattle.trex_words.specs.declared.asked.SampleAsk.{SampleAsk}
 use Rattle.trex_words.specs.declared.asked.WireAsk.{WireAsk}
 use Rattle.trex_words.specs.declared.asked.Asked.{Asked}
-use Rattle.trex_words.specs.declared.asked.Asked.TheVariants.{Run as ARun, Check as ACheck, Analyze as AnAnalysis, Sample as ASample, Import as AnImport, Wire as AWire, Help as SomeHelp}
+use Rattle.trex_words.specs.declared.asked.Asked.TheVariants.{Run as ARun, Check as ACheck, Analyze as AnAnalysis, Sample as ASample, Import as AnImport, Wire as AWire, Session as ASession, Help as SomeHelp}
 use Rattle.trex_words.specs.declared.command.Command.{Command}
-use Rattle.trex_words.specs.declared.command.Command.TheVariants.{Run, Check, Analyze, Sample, Import, Wire, Help}
+use Rattle.trex_words.specs.declared.command.Command.TheVariants.{Run, Check, Analyze, Sample, Import, Wire, Session, Help}
 use Rattle.trex_words.specs.declared.options.Limits.{Limits}
 use Rattle.trex_words.specs.declared.asked.OptionName.TheVariants.{Seed}
 use Rattle.trex_words.specs.declared.asked.Usage.{Usage}
@@ -30,7 +30,8 @@ command_of word =
     else (if bytes_eq word (codes "sample") then Some Sample
     else (if bytes_eq word (codes "import") then Some Import
     else (if bytes_eq word (codes "wire") then Some Wire
-    else (if bytes_eq word (codes "help") then Some Help else None))))))
+    else (if bytes_eq word (codes "session") then Some Session
+    else (if bytes_eq word (codes "help") then Some Help else None)))))))
 
 -- the options of a command: the name of each, its least and its greatest value, and its value where it isn't given
 abbrev pub Options : Type 0
@@ -70,6 +71,7 @@ options_of Analyze = []
 options_of Sample = sample_options
 options_of Import = []
 options_of Wire = wire_options
+options_of Session = []
 options_of Help = []
 
 -- the limits of an option, if the command has it
@@ -141,6 +143,7 @@ missing_option Analyze words = None
 missing_option Sample words = missing_seed words
 missing_option Import words = None
 missing_option Wire words = missing_seed words
+missing_option Session words = None
 missing_option Help words = None
 
 -- what is wrong with the words of a command: the first fault from the left, and after the last word an option that is missing
@@ -183,6 +186,7 @@ request Analyze words = AnAnalysis
 request Sample words = ASample (sample_ask words)
 request Import words = AnImport
 request Wire words = AWire (wire_ask words)
+request Session words = ASession
 request Help words = SomeHelp
 
 -- the request, if nothing is wrong with the words
@@ -226,4 +230,5 @@ IsAsked AnAnalysis = Unit {0}
 IsAsked (ASample ask) = IsSampleAsk ask
 IsAsked AnImport = Unit {0}
 IsAsked (AWire ask) = IsWireAsk ask
+IsAsked ASession = Unit {0}
 IsAsked SomeHelp = Unit {0}

@@ -11,6 +11,7 @@ help_text =
     ∷ codes "trex sample --seed n [--streams n] [--duration n] [--limit n] [--cores n]\n"
     ∷ codes "trex import\n"
     ∷ codes "trex wire --seed n [--loss n] [--copy n] [--delay n]\n"
+    ∷ codes "trex session\n"
     ∷ codes "trex help\n"
     ∷ []
     )

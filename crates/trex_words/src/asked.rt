@@ -15,6 +15,8 @@ pub enum Asked {
     Import,
     /// Measure what a simulated wire gives of a capture.
     Wire(WireAsk),
+    /// Hold a session of stream commands.
+    Session,
     /// Tell the commands and their options.
     Help,
 }

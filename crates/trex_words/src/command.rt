@@ -12,6 +12,7 @@ pub enum Command {
     Sample,
     Import,
     Wire,
+    Session,
     Help,
 }
 
@@ -31,6 +32,8 @@ pub fn command_of(word: &str) -> Option<Command>
         Some(Command::Import)
     } else if word == "wire" {
         Some(Command::Wire)
+    } else if word == "session" {
+        Some(Command::Session)
     } else if word == "help" {
         Some(Command::Help)
     } else {

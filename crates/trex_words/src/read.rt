@@ -212,12 +212,13 @@ fn request(command: Command, words: &[String]) -> Asked
         Command::Sample => Asked::Sample(sample_ask(words)),
         Command::Import => Asked::Import,
         Command::Wire => Asked::Wire(wire_ask(words)),
+        Command::Session => Asked::Session,
         Command::Help => Asked::Help,
     }
 }
 
 /// What the command words ask for, or the first fault from the left. Word 0 is the command: `run`, `check`, `analyze`, `sample`,
-/// `import`, `wire` or `help`. The options are pairs of words in any order, each at most once. `run` and `sample` have `--duration` (1 to 10^18, else
+/// `import`, `wire`, `session` or `help`. The options are pairs of words in any order, each at most once. `run` and `sample` have `--duration` (1 to 10^18, else
 /// 10^9), `--limit` (1 to 100000000, else 100000) and `--cores` (1 to 64, else 1). `run` has `--base` (0 to 3000000000, else 0).
 /// `sample` and `wire` have `--seed` (0 to 2^64 - 1, which must be given). `sample` has `--streams` (1 to 256, else 16). `wire` has
 /// `--loss` and `--copy` (0 to 1000000, else 0) and `--delay` (0 to 10^18, else 0). A value is one or more digits.

@@ -53,6 +53,8 @@ fn words_are_read_up_to_the_first_fault(rt: HostRuntime) -> Result<(), Fail> {
         ("check x", Err(Usage::UnknownOption { at: 1 })),
         ("check", Ok(Asked::Check)),
         ("analyze", Ok(Asked::Analyze)),
+        ("session", Ok(Asked::Session)),
+        ("session --limit 1", Err(Usage::UnknownOption { at: 1 })),
         ("help", Ok(Asked::Help)),
         ("help --limit 1", Err(Usage::UnknownOption { at: 1 })),
         ("sample", missing),

@@ -1,4 +1,4 @@
-use Rattle.trex_top.proofs.EndsLemmas.{usage, causes, leaves, rounds, run_refuses, check_refuses, measuring_refuses, import_refuses, unfit_refuses, completes}
+use Rattle.trex_top.proofs.EndsLemmas.{usage, causes, leaves, rounds, run_refuses, check_refuses, measuring_refuses, import_refuses, unfit_refuses, session_breaks, completes}
 use Rattle.trex_top.proofs.endings.endings_hold.Goals as goal
 
 pub returns-clause-usage : goal.returns-clause-usage
@@ -27,6 +27,9 @@ returns-clause-import_refuses g c input out notes s bad e = import_refuses input
 
 pub returns-clause-unfit_refuses : goal.returns-clause-unfit_refuses
 returns-clause-unfit_refuses g c input out notes s is e = unfit_refuses input out notes c.one_reading.ensures s is e
+
+pub returns-clause-session_breaks : goal.returns-clause-session_breaks
+returns-clause-session_breaks g c input out notes s broken e = session_breaks input out notes s broken e
 
 pub returns-clause-complete : goal.returns-clause-complete
 returns-clause-complete g c a input out notes gates s suits read wrote noted e =

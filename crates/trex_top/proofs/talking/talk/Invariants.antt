@@ -2,11 +2,12 @@
 use Rattle.std.proofs.Common.{◌≤◌, ◌-◌}
 use Rattle.trex_rpc.specs.Lines.{ahead}
 use Rattle.trex_rpc.proofs.TalkLemmas.{SoFar}
-use Rattle.trex_rpc.proofs.talking.talk.Given as goal
+use Rattle.trex_top.specs.Ends.Session.{starts}
+use Rattle.trex_top.proofs.talking.talk.Given as goal
 
 abbrev pub invariant-lines : goal.invariant-lines
 invariant-lines g l = record {
-  spoken : SoFar (record { notes = g.R.Runner.notes_of; out = g.R.Runner.out_of }) g.O.Sink.held g.N.Sink.held l.initial.out l.initial.notes
+  spoken : SoFar starts g.O.Sink.held g.N.Sink.held l.initial.out l.initial.notes
       (g.S.Source.left l.initial.input) (ahead g.S.Source.left l.reader l.input) l.before l.number l.session l.out l.notes;
   few : l.before ≤ 268435456;
   numbers : l.number ≤ l.before;

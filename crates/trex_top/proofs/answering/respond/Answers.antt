@@ -1,6 +1,6 @@
 -- The reply and the table are those of the line.
 use Rattle.trex_rpc.specs.Talk.{captured, reply}
-use Rattle.trex_rpc.proofs.answering.respond.Goals as goal
+use Rattle.trex_top.proofs.answering.respond.Goals as goal
 
 pub returns-clause-answered : goal.returns-clause-answered
 unfolding captured reply
