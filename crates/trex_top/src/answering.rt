@@ -14,7 +14,6 @@ use std::thread::Threads;
 use trex_crew::Gate;
 use trex_io::{Sink, write_all};
 use trex_json::{ProfileFault, read_profile};
-
 use trex_report::{write_refusal, write_report};
 use trex_rpc::{Reply, Session, Unanswered};
 use trex_words::RunAsk;

@@ -124,6 +124,7 @@ pub fn limits_of(command: Command, name: &str) -> Option<Limits>
         Command::Run => run_limits(name),
         Command::Sample => sample_limits(name),
         Command::Wire => wire_limits(name),
-        Command::Check | Command::Analyze | Command::Import | Command::Session | Command::Help => None,
+        Command::Check | Command::Analyze | Command::Import | Command::Session | Command::Help =>
+            None,
     }
 }
