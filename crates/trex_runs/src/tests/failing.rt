@@ -51,6 +51,7 @@ trex analyze\n\
 trex sample --seed n [--streams n] [--duration n] [--limit n] [--cores n]\n\
 trex import\n\
 trex wire --seed n [--loss n] [--copy n] [--delay n]\n\
+trex session\n\
 trex help\n";
 
 /// A line of words with the bytes that it may read, the number of its reads at a byte a call, and all that it writes.
