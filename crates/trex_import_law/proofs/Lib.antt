@@ -1,2 +1,5 @@
 pub mod EntryLemmas
 pub mod ReadingLemmas
+mod Fit
+mod Entries
+mod Rules

@@ -1,6 +1,6 @@
 // The laws of an import.
 
-ghost use Rattle.std.specs.Prelude.{◌≡◌, ℕ, ◌^◌, ◌<◌, List, Ok, Some, decimal, IsUtf8};
+ghost use Rattle.std.specs.Prelude.{◌≡◌, ℕ, ◌^◌, ◌<◌, List, None, Ok, Some, decimal, IsUtf8};
 ghost use Rattle.base64.specs.Engines.{standard};
 ghost use Rattle.base64.specs.GeneralPurpose.{IsBytes, decoded_of, encode_of};
 ghost use Rattle.serde_json.specs.Read.{read};
@@ -8,8 +8,11 @@ ghost use Rattle.trex_decimal.specs.Decimal.{scaled_of, whole_of};
 ghost use Rattle.trex_decimal.specs.Quoted.{quoted};
 ghost use Rattle.trex_import.specs.Document.{document};
 ghost use Rattle.trex_import.specs.Drafts.{HaveBytes};
+ghost use Rattle.trex_import.specs.Fit.{unfit_of};
 ghost use Rattle.trex_import.specs.Imported.{imported, microseconds};
+ghost use Rattle.trex_import_law.specs.Resent.{streams_of};
 ghost use Rattle.trex_io.specs.Seen.{Seen};
+ghost use Rattle.trex_json.specs.Verdict.{verdict};
 
 /// Law: the text that is written for the records of a capture is UTF-8, has no number token outside its JSON texts, and reads as its entries.
 pub fn imports_read_back()
@@ -23,4 +26,9 @@ pub fn entries_read_back()
     ensures gap { (ns : ℕ) → ns < 10 ^ 18 → scaled_of (microseconds ns) 3 ≡ Ok ns }
     ensures packet { (bytes : List ℕ) → IsBytes bytes → decoded_of standard (encode_of standard bytes) ≡ Some bytes }
     ensures id { (id : ℕ) → id < 2 ^ 64 → whole_of (decimal id) ≡ Some id }
+{}
+
+/// Law: the text of records that are fit is a profile, which is accepted: it says a stream for each record.
+pub fn imports_run_back()
+    ensures accepted { (rs : List Seen) → unfit_of rs ≡ None → HaveBytes rs → verdict (imported rs) ≡ Ok (streams_of rs) }
 {}
