@@ -1,5 +1,5 @@
 -- The entries of a text of records keep the rules on shapes, and say the streams of the records.
-use Rattle.std.proofs.Common.{◌≡◌, ℕ, suc, ◌+◌, ◌-◌, ◌^◌, ◌<◌, ◌≤◌, true, nat_le, List, [], ◌∷◌, length, map, codes, decimal, Some, None, Ok, refl, ap, ap₂, ◌∙◌, arith, le-leb, le-ltb}
+use Rattle.std.proofs.Common.{◌≡◌, ℕ, ◌+◌, ◌-◌, ◌^◌, ◌<◌, ◌≤◌, true, nat_le, List, [], ◌∷◌, length, map, codes, decimal, Some, None, Ok, refl, ap, ap₂, ◌∙◌, arith, le-leb, le-ltb}
 use Rattle.std.proofs.lemmas.Str.{is_utf8-from_IsUtf8}
 use Rattle.std.specs.Str.{IsUtf8}
 use Rattle.base64.specs.Engines.{standard}
@@ -20,7 +20,7 @@ use Rattle.trex_json.specs.Shape.{count_rules, effect_rules, entry_rules, entry_
 use Rattle.trex_json.specs.Verdict.{shape_of, text_refusal}
 use Rattle.trex_profile.specs.Order.{first_each}
 use Rattle.trex_import_law.proofs.EntryLemmas.{decoded_of-encode_of, scaled_of-microseconds}
-use Rattle.trex_import_law.proofs.Fit.{AreFit, AreProfile}
+use Rattle.trex_import_law.proofs.Fit.{AreFit, AreProfile, count-each}
 use Rattle.trex_import_law.proofs.ReadingLemmas.{imported-quoted, imported-read, imported-utf8}
 use Rattle.trex_import_law.specs.Resent.{once, streams_of}
 
@@ -80,10 +80,6 @@ entries-say start before number (r ∷ rs) fit have =
     let here = entry-is number (r.time - start) r.bytes fit.0.few fit.0.near have.0 in
     ap₂ (λ x xs. x ∷ xs) here.says (entries-say start r.time (number + 1) rs fit.1 have.1)
 
-entries-count : (start number : ℕ) (rs : List Seen) → length (for_each entry_data start number rs) ≡ length rs
-entries-count start number [] = refl
-entries-count start number (r ∷ rs) = ap (λ n. suc n) (entries-count start (number + 1) rs)
-
 -- ---- the text
 
 -- the list of the items that a list makes is that list
@@ -102,7 +98,7 @@ unfolding text_refusal
 imported-shape rs are have =
     let items = for_each entry_data (first_time rs) 1 rs in
     let short = le-ltb 33554432 (length (imported rs)) are.text in
-    let count : length items ≤ 4096 = omega (arith, entries-count (first_time rs) 1 rs, are.few) in
+    let count : length items ≤ 4096 = omega (arith, count-each entry_data (first_time rs) 1 rs, are.few) in
     let few = le-ltb 4096 (length items) count in
     rw (short, imported-json rs have, list-back items, few, entries-fit 0 (first_time rs) (first_time rs) 1 rs are.fit have)
     (ap Ok (entries-say (first_time rs) (first_time rs) 1 rs are.fit have))

@@ -1,10 +1,10 @@
 -- What is known of records that are fit to be a profile.
-use Rattle.std.proofs.Common.{◌≡◌, ℕ, ◌+◌, ◌-◌, ◌^◌, ◌<◌, ◌≤◌, ◌==◌, ◌||◌, Bool, true, false, not, nat_lt, nat_le, List, [], ◌∷◌, length, Option, Some, None, if◌then◌else◌, refl, arith}
+use Rattle.std.proofs.Common.{◌≡◌, ℕ, suc, ◌+◌, ◌-◌, ◌^◌, ◌<◌, ◌≤◌, ◌==◌, ◌||◌, Bool, true, false, not, nat_lt, nat_le, List, [], ◌∷◌, length, Option, Some, None, if◌then◌else◌, refl, ap, arith}
 use Rattle.std.proofs.lemmas.Bool.Decides.{nat_tests}
 use Rattle.std.specs.Option.{option_or}
 use Rattle.trex_io.specs.Seen.{Seen}
 use Rattle.trex_import.specs.Fit.{record_unfit, records_unfit, text_unfit, unfit_of}
-use Rattle.trex_import.specs.Imported.{first_time, imported}
+use Rattle.trex_import.specs.Imported.{first_time, for_each, imported}
 
 -- a record that is fit, where it has this number, and the first record and the one before it had these times
 pub record IsFit (start before number : ℕ) (r : Seen) : Type 0 where
@@ -78,3 +78,8 @@ profile-from rs none =
   where
     text-from : (n : ℕ) → nat_lt 33554432 n ≡ false → n ≤ 33554432
     text-from n test = grind (arith, nat_tests)
+
+-- there is one value for each record
+pub count-each : {A : Type 0} (f : ℕ → ℕ → List ℕ → A) (start number : ℕ) (rs : List Seen) → length (for_each f start number rs) ≡ length rs
+count-each f start number [] = refl
+count-each f start number (r ∷ rs) = ap (λ n. suc n) (count-each f start (number + 1) rs)

@@ -3,3 +3,4 @@ pub mod ReadingLemmas
 mod Fit
 mod Entries
 mod Rules
+mod Packets

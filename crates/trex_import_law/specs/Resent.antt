@@ -1,5 +1,5 @@
 -- What becomes of an import: the streams that its text says, and what a run of them sends. Own.
-use Rattle.std.specs.Prelude.{ℕ, ◌+◌, ◌*◌, ◌^◌, true, List, [], None}
+use Rattle.std.specs.Prelude.{◌≡◌, ℕ, ◌+◌, ◌*◌, ◌^◌, ◌≤◌, true, List, [], length, None}
 use Rattle.trex_import.specs.Imported.{first_time, for_each}
 use Rattle.trex_io.specs.Seen.{Seen}
 use Rattle.trex_merge.specs.Frames.{Frame}
@@ -7,6 +7,7 @@ use Rattle.trex_pcap.specs.Writing.{Packet}
 use Rattle.trex_profile.specs.declared.raw.RateKind.TheVariants.{Pps}
 use Rattle.trex_profile.specs.Stream.{Stream}
 use Rattle.trex_sched.specs.declared.mode.Mode.TheVariants.{SingleBurst}
+use Rattle.trex_words.specs.declared.asked.RunAsk.{RunAsk}
 
 -- the stream of this id that sends these bytes once, so many nanoseconds from the start
 abbrev pub once : ℕ → ℕ → List ℕ → Stream
@@ -44,3 +45,8 @@ packet_after base number ns bytes = record { time = base * 10 ^ 9 + ns; bytes = 
 -- the records once more, as packets whose times count from the base as the records' do from the first
 abbrev pub resent : ℕ → List Seen → List Packet
 resent base records = for_each (packet_after base) (first_time records) 1 records
+
+-- a run for the longest duration, of no fewer packets than there are records
+pub record RunsThrough (ask : RunAsk) (records : List Seen) : Type 0 where
+  pub duration : ask.duration ≡ 10 ^ 18
+  pub limit : length records ≤ ask.limit
