@@ -3,4 +3,4 @@
 
 mod laws;
 
-pub use laws::{entries_read_back, imports_read_back};
+pub use laws::{entries_read_back, imports_read_back, imports_run_back};
