@@ -26,6 +26,7 @@ use Rattle.trex_import_law.specs.Resent.{once, streams_of}
 
 -- ---- one entry
 
+-- the two numbers that each entry has
 one-is : whole_of (codes "1") ≡ Some 1
 unfolding whole_of
 one-is = refl
@@ -66,6 +67,7 @@ entry-is number ns bytes few near are =
       says = entry-says (microseconds ns) (encode_of standard bytes) (decimal number) ns number bytes gap_is within id_is small packet_is;
     }
 
+-- the rules on shapes, entry by entry
 entries-fit : (position start before number : ℕ) (rs : List Seen) → AreFit start before number rs → HaveBytes rs
     → first_each shape_refusal position (for_each entry_data start number rs) ≡ None
 entries-fit position start before number [] fit have = refl
@@ -73,6 +75,7 @@ entries-fit position start before number (r ∷ rs) fit have =
     let here = entry-is number (r.time - start) r.bytes fit.0.few fit.0.near have.0 in
     rw (here.fits, entries-fit (position + 1) start r.time (number + 1) rs fit.1 have.1) refl
 
+-- the streams of the entries are those of the records
 entries-say : (start before number : ℕ) (rs : List Seen) → AreFit start before number rs → HaveBytes rs
     → map entry_stream (for_each entry_data start number rs) ≡ for_each once start number rs
 entries-say start before number [] fit have = refl
@@ -87,9 +90,11 @@ list-back : (ds : List Data) → list_of (items_of ds) ≡ ds
 list-back [] = refl
 list-back (d ∷ ds) = ap (λ rest. d ∷ rest) (list-back ds)
 
+-- a text that is UTF-8 and reads as a value
 value_of-read : (text : List ℕ) (d : Data) → IsUtf8 text → read text ≡ Some d → value_of text ≡ Some d
 value_of-read text d utf8 is = rw (is_utf8-from_IsUtf8 text utf8) is
 
+-- the JSON value of the text, whose numbers count as texts
 imported-json : (rs : List Seen) → HaveBytes rs → json_of (imported rs) ≡ Some (document rs)
 imported-json rs have = ap value_of (imported-quoted rs have) ∙ value_of-read (imported rs) (document rs) (imported-utf8 rs have) (imported-read rs have)
 

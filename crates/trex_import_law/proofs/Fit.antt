@@ -14,6 +14,7 @@ pub record IsFit (start before number : ℕ) (r : Seen) : Type 0 where
   pub later : before ≤ r.time
   pub near : r.time - start < 10 ^ 18
 
+-- the records are fit, one after another
 abbrev pub AreFit : ℕ → ℕ → ℕ → List Seen → Type 0
 AreFit start before number [] = Unit {0}
 AreFit start before number (r ∷ rs) = IsFit start before number r × AreFit start r.time (number + 1) rs
@@ -23,10 +24,12 @@ kept : {E : Type 0} (test : Bool) (e : E) (rest : Option E) → (if test then So
 kept true e rest none = absurd (cc)
 kept false e rest none = (refl, none)
 
+-- where neither of two rules is broken
 neither : {E : Type 0} (a b : Option E) → option_or a b ≡ None → (a ≡ None) × (b ≡ None)
 neither (Some e) b none = absurd (cc)
 neither None b none = (refl, none)
 
+-- a record that breaks no rule is fit
 fit-from : (start before number : ℕ) (r : Seen) → record_unfit start before number r ≡ None → IsFit start before number r
 unfolding record_unfit
 fit-from start before number r none =
@@ -53,6 +56,7 @@ fits-from start before number (r ∷ rs) none =
     let parts = neither (record_unfit start before number r) (records_unfit start r.time (number + 1) rs) none in
     (fit-from start before number r parts.0, fits-from start r.time (number + 1) rs parts.1)
 
+-- fit records are numbered to 4,096 at most
 few-from : (start before number : ℕ) (rs : List Seen) → number ≤ 4097 → AreFit start before number rs → number + length rs ≤ 4097
 few-from start before number [] small fit = omega arith
 few-from start before number (r ∷ rs) small fit =

@@ -47,10 +47,12 @@ one_packet position ns period = record { stream = position; isg = ns; period = p
 abbrev chain_alone : ℕ → ℕ → Period → Chain
 chain_alone position ns period = record { legs = one_packet position ns period ∷ []; back = None }
 
+-- no run comes after the last
 no-runs : (chain : Chain) (n : ℕ) → runs_from chain n None ≡ []
 no-runs chain zero = refl
 no-runs chain (suc n) = refl
 
+-- what the chain sends: its one packet, where that stands below the duration
 entries-one : (position ns d : ℕ) (period : Period) → ns < d → entries (chain_alone position ns period) d ≡ slot_at position ns ∷ []
 entries-one position ns zero period early = absurd (omega arith)
 entries-one position ns (suc n) period early =
@@ -61,23 +63,37 @@ entries-one position ns (suc n) period early =
 
 -- ---- all chains
 
--- In the whole list the streams of the records stand from a position on: each is the only one of its chain.
+-- in a list of streams, those of the records stand from a position on
+abbrev StandFrom : ℕ → List Stream → ℕ → ℕ → List Seen → Type 0
+StandFrom position all start number rs = (k : ℕ) → slice_get all (position + k) ≡ slice_get (for_each once start number rs) k
+
+-- the first of them stands at the position, the others from the next one on
+first-stands : (position : ℕ) (all : List Stream) (start number : ℕ) (r : Seen) (rs : List Seen) → StandFrom position all start number (r ∷ rs)
+    → slice_get all position ≡ Some (once number (r.time - start) r.bytes)
+first-stands position all start number r rs stand = ap (slice_get all) (omega arith) ∙ stand 0
+
+others-stand : (position : ℕ) (all : List Stream) (start number : ℕ) (r : Seen) (rs : List Seen) → StandFrom position all start number (r ∷ rs)
+    → StandFrom (position + 1) all start (number + 1) rs
+others-stand position all start number r rs stand k = ap (slice_get all) (omega arith) ∙ stand (suc k)
+
+-- each stream of a record is the only one of its chain
 chains-send : (all : List Stream) → ((at : ℕ) → link_at (links all) at ≡ None) → (d start before position number : ℕ) (rs : List Seen) → 10 ^ 18 ≤ d
     → AreFit start before number rs
-    → ((k : ℕ) → slice_get all (position + k) ≡ slice_get (for_each once start number rs) k)
+    → StandFrom position all start number rs
     → joined (map (λ chain. entries chain d) (map (λ at. chain_by all (round_of (links all) at)) (starts_from position (for_each once start number rs))))
     ≡ for_each slot_for start position rs
-chains-send all none d start before position number [] long fit there = refl
-chains-send all none d start before position number (r ∷ rs) long fit there =
+chains-send all none d start before position number [] long fit stand = refl
+chains-send all none d start before position number (r ∷ rs) long fit stand =
     let ns = r.time - start in
-    let here : slice_get all position ≡ Some (once number ns r.bytes) = ap (slice_get all) (omega arith) ∙ there 0 in
+    let here = first-stands position all start number r rs stand in
     let near : ns < 10 ^ 18 = fit.0.near in
     let early : ns < d = omega arith in
-    let later = chains-send all none d start r.time (position + 1) (number + 1) rs long fit.1 (λ k. ap (slice_get all) (omega arith) ∙ there (suc k)) in
+    let later = chains-send all none d start r.time (position + 1) (number + 1) rs long fit.1 (others-stand position all start number r rs stand) in
     rw (round-alone (links all) position (none position), here, entries-one position ns d (period (once number ns r.bytes)) early, later) refl
 
 -- ---- in order
 
+-- an earlier stream goes first, unless it is later in time
 goes-first : (a b : Slot) → a.time ≤ b.time → a.stream < b.stream → is_before (key_of a) (key_of b) ≡ true
 goes-first a b times streams = grind (arith, nat_tests)
 
@@ -97,18 +113,19 @@ slots-ordered start before position number (r ∷ s ∷ rs) fit =
 packet-same : (number ns : ℕ) (bytes : List ℕ) (at place time : ℕ) → packet_of (once number ns bytes) at place time ≡ bytes
 packet-same number ns bytes at place time = take_all (length bytes) bytes (omega arith)
 
+-- the packets with their bytes
 frames-same : (all : List Stream) (base start position number : ℕ) (rs : List Seen)
-    → ((k : ℕ) → slice_get all (position + k) ≡ slice_get (for_each once start number rs) k)
+    → StandFrom position all start number rs
     → map (frame_at all base) (for_each slot_for start position rs) ≡ for_each sent_once start position rs
 unfolding packet_bytes
-frames-same all base start position number [] there = refl
-frames-same all base start position number (r ∷ rs) there =
+frames-same all base start position number [] stand = refl
+frames-same all base start position number (r ∷ rs) stand =
     let ns = r.time - start in
-    let here : slice_get all position ≡ Some (once number ns r.bytes) = ap (slice_get all) (omega arith) ∙ there 0 in
-    let later = frames-same all base start (position + 1) (number + 1) rs (λ k. ap (slice_get all) (omega arith) ∙ there (suc k)) in
+    let here = first-stands position all start number r rs stand in
+    let later = frames-same all base start (position + 1) (number + 1) rs (others-stand position all start number r rs stand) in
     rw (here, packet-same number ns r.bytes 0 0 (base * 10 ^ 9 + ns), later) refl
 
--- the packets of a capture
+-- the packets as those of a capture
 packets-same : (base start position number : ℕ) (rs : List Seen)
     → map (packet_at base) (for_each sent_once start position rs) ≡ for_each (packet_after base) start number rs
 packets-same base start position number [] = refl
@@ -123,14 +140,14 @@ imported-sequence rs fit ask through =
     let are = profile-from rs fit in
     let start = first_time rs in
     let all = streams_of rs in
-    let there : (k : ℕ) → slice_get all (0 + k) ≡ slice_get all k = λ k. ap (slice_get all) (omega arith) in
-    let sent = chains-send all (no-links all start 1 rs) ask.duration start start 0 1 rs (omega (arith, through.duration)) are.fit there in
+    let stand : StandFrom 0 all start 1 rs = λ k. ap (slice_get all) (omega arith) in
+    let sent = chains-send all (no-links all start 1 rs) ask.duration start start 0 1 rs (omega (arith, through.duration)) are.fit stand in
     let slots = for_each slot_for start 0 rs in
     let whole = take_all ask.limit slots (omega (arith, count-each slot_for start 0 rs, through.limit)) in
     ap (λ xs. map (frame_at all ask.base) (take ask.limit (ordered key_of xs))) sent
     ∙ ap (λ xs. map (frame_at all ask.base) (take ask.limit xs)) (slots-ordered start start 0 1 rs are.fit)
     ∙ ap (map (frame_at all ask.base)) whole
-    ∙ frames-same all ask.base start 0 1 rs there
+    ∙ frames-same all ask.base start 0 1 rs stand
 
 imported-capture : (rs : List Seen) → unfit_of rs ≡ None → (ask : RunAsk) → RunsThrough ask rs
     → capture (streams_of rs) ask ≡ capture_of (resent ask.base rs)

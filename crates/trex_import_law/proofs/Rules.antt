@@ -8,6 +8,7 @@ use Rattle.trex_import.specs.Fit.{unfit_of}
 use Rattle.trex_io.specs.Seen.{Seen}
 use Rattle.trex_json.specs.Verdict.{verdict}
 use Rattle.trex_profile.proofs.OrderLemmas.{starts_from-rising}
+use Rattle.trex_profile.specs.declared.refusal.Refusal.{Refusal}
 use Rattle.trex_profile.specs.Admission.{admitted}
 use Rattle.trex_profile.specs.Chains.{starts}
 use Rattle.trex_profile.specs.Cross.{cross_rules, duplicate_refusal, flow_refusal, lost_refusal, shared_refusal}
@@ -24,10 +25,12 @@ use Rattle.trex_import_law.specs.Resent.{once, streams_of}
 
 -- ---- values
 
+-- a packet of 14 to 9,216 bytes, once, at a billion packets a second
 value-fits : (id ns : ℕ) (bytes : List ℕ) → 14 ≤ length bytes → length bytes ≤ 9216 → value_rules (once id ns bytes) ≡ None
 unfolding value_rules time_rules names_rules does_rules length_rules place_rules
 value-fits id ns bytes long short = rw (le-ltb (length bytes) 14 long, le-ltb 9216 (length bytes) short) refl
 
+-- the rules on values, stream by stream
 values-fit : (position start before number : ℕ) (rs : List Seen) → AreFit start before number rs → first_each value_refusal position (for_each once start number rs) ≡ None
 values-fit position start before number [] fit = refl
 values-fit position start before number (r ∷ rs) fit =
@@ -35,17 +38,20 @@ values-fit position start before number (r ∷ rs) fit =
 
 -- ---- ids
 
+-- the first k streams have ids below the next one's
 ids-below : (bound k start number : ℕ) (rs : List Seen) → number + k ≤ bound → AllByRecursion (λ id. id < bound) (take k (ids (for_each once start number rs)))
 ids-below bound zero start number rs within = tt
 ids-below bound (suc k) start number [] within = tt
 ids-below bound (suc k) start number (r ∷ rs) within = (omega arith, ids-below bound k start (number + 1) rs (omega arith))
 
+-- a number is none of those below it
 absent : (id : ℕ) (others : List ℕ) → AllByRecursion (λ other. other < id) others → list_any (nat_eq id) others ≡ false
 absent id [] below = refl
 absent id (other ∷ others) below =
     let less : other < id = below.0 in
     rw (ne_eqb id other (λ e. omega arith)) (absent id others below.1)
 
+-- where the ids before a position are below the one there, none comes twice
 no-duplicate : (all : List ℕ) (position start number : ℕ) (rs : List Seen)
     → ((k id : ℕ) → k + 1 ≡ id → AllByRecursion (λ other. other < id) (take k all))
     → position + 1 ≡ number → first_each (duplicate_refusal all) position (for_each once start number rs) ≡ None
@@ -55,9 +61,12 @@ no-duplicate all position start number (r ∷ rs) below at =
 
 -- ---- next streams, and chains
 
-none-lost : (all : List ℕ) (position start number : ℕ) (rs : List Seen) → first_each (lost_refusal all) position (for_each once start number rs) ≡ None
-none-lost all position start number [] = refl
-none-lost all position start number (r ∷ rs) = rw (none-lost all (position + 1) start (number + 1) rs) refl
+-- a rule that no stream of one packet breaks
+none-each : (rule : ℕ → Stream → Option Refusal) → ((position id ns : ℕ) (bytes : List ℕ) → rule position (once id ns bytes) ≡ None)
+    → (position start number : ℕ) (rs : List Seen) → first_each rule position (for_each once start number rs) ≡ None
+none-each rule none position start number [] = refl
+none-each rule none position start number (r ∷ rs) =
+    rw (none position number (r.time - start) r.bytes, none-each rule none (position + 1) start (number + 1) rs) refl
 
 -- nothing follows a stream of a record
 pub no-links : (all : List Stream) (start number : ℕ) (rs : List Seen) (at : ℕ) → link_at (map (effective_next all) (for_each once start number rs)) at ≡ None
@@ -74,7 +83,9 @@ or-none : (b : Bool) → (b || false) ≡ b
 or-none true = refl
 or-none false = refl
 
+-- where nothing follows any position
 module _ (links : List (Option ℕ)) (none : (at : ℕ) → link_at links at ≡ None) where
+  -- a chain comes to its first position alone
   comes_to-itself : (at start : ℕ) → comes_to links at start ≡ nat_eq at start
   comes_to-itself at start = ap (λ (round : Round). has round.order at) (round-alone links start (none start)) ∙ or-none (nat_eq at start)
 
@@ -85,6 +96,7 @@ module _ (links : List (Option ℕ)) (none : (at : ℕ) → link_at links at ≡
       let later : low ≤ start = rising.0 in
       rw (comes_to-itself at start, ne_eqb at start (λ e. omega arith)) (none-comes at n (start + 1) starts (omega arith) rising.2)
 
+  -- no two chains come to one position
   unshared : (at n low : ℕ) (starts : List ℕ) → AreRising n low starts → is_shared (reach_of (filter (comes_to links at) starts)) ≡ false
   unshared at n low [] rising = refl
   unshared at n low (start ∷ starts) rising = rw (comes_to-itself at start) (by_test (nat_eq at start) refl (unshared at n (start + 1) starts rising.2))
@@ -96,18 +108,6 @@ module _ (links : List (Option ℕ)) (none : (at : ℕ) → link_at links at ≡
           rw (none-comes at n (start + 1) starts (omega arith) rising.2) refl
       by_test false is later = later
 
-  none-shared : (starts : List ℕ) (n : ℕ) → AreRising n 0 starts → (position start number : ℕ) (rs : List Seen)
-      → first_each (shared_refusal links starts) position (for_each once start number rs) ≡ None
-  none-shared starts n rising position start number [] = refl
-  none-shared starts n rising position start number (r ∷ rs) =
-      rw (unshared position n 0 starts rising, none-shared starts n rising (position + 1) start (number + 1) rs) refl
-
--- ---- flows
-
-no-flows : (all : List Stream) (position start number : ℕ) (rs : List Seen) → first_each (flow_refusal all) position (for_each once start number rs) ≡ None
-no-flows all position start number [] = refl
-no-flows all position start number (r ∷ rs) = rw (no-flows all (position + 1) start (number + 1) rs) refl
-
 -- ---- all rules
 
 cross-fit : (rs : List Seen) → cross_rules (streams_of rs) ≡ None
@@ -115,11 +115,13 @@ unfolding cross_rules
 cross-fit rs =
     let start = first_time rs in
     let all = streams_of rs in
+    let one_each : (position id ns : ℕ) (bytes : List ℕ) → shared_refusal (links all) (starts all) position (once id ns bytes) ≡ None =
+    λ position id ns bytes. rw (unshared (links all) (no-links all start 1 rs) position (length all) 0 (starts all) (starts_from-rising (length all) 0 all (omega arith))) refl in
     rw (
       no-duplicate (ids all) 0 start 1 rs (λ k id at. ids-below id k start 1 rs (omega arith)) refl,
-      none-lost (ids all) 0 start 1 rs,
-      none-shared (links all) (no-links all start 1 rs) (starts all) (length all) (starts_from-rising (length all) 0 all (omega arith)) 0 start 1 rs,
-      no-flows all 0 start 1 rs,
+      none-each (lost_refusal (ids all)) (λ position id ns bytes. refl) 0 start 1 rs,
+      none-each (shared_refusal (links all) (starts all)) one_each 0 start 1 rs,
+      none-each (flow_refusal all) (λ position id ns bytes. refl) 0 start 1 rs,
     ) refl
 
 pub imported-verdict : (rs : List Seen) → unfit_of rs ≡ None → HaveBytes rs → verdict (imported rs) ≡ Ok (streams_of rs)
