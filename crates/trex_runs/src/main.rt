@@ -2,7 +2,8 @@
 //! of them is printed beside the name: the status, the notes and the output. A line without tabs is printed as it stands.
 //!
 //! Command lines stand with `, ` between them, and all leave the same: one line is printed for each that leaves something else than the one before
-//! it. In `a | b` the command b reads what a wrote. An input is a text, or `hex` and digits, or `fails` for a source that fails at its first call.
+//! it. In `a | b` the command b reads what a wrote. An input is a text, or `hex` and digits, or `lines` and
+//! lines with ` // ` between them, or `fails` for a source that fails at its first call.
 #![tactic(auto)]
 
 mod memory;
@@ -96,8 +97,23 @@ fn left_by<R: Threads + Sync>(
     Ok(left)
 }
 
-/// The bytes of an input: those of `hex` and pairs of digits, or the text's own.
+/// Lines with a line feed between them, where ` // ` stands between them in a text.
+fn joined_lines(alloc: Global, text: &str) -> Result<Vec<u8>, Fail> {
+    let mut bytes = Vec::new(alloc);
+    for (place, line) in text.split(" // ").enumerate() {
+        if place > 0 {
+            bytes.push(b'\n')?;
+        }
+        bytes.extend_from_slice(line.as_bytes())?;
+    }
+    Ok(bytes)
+}
+
+/// The bytes of an input: those of `hex` and pairs of digits, those of `lines` and lines, or the text's own.
 fn bytes_of(alloc: Global, input: &str) -> Result<Vec<u8>, Fail> {
+    if let Some(text) = input.strip_prefix("lines ") {
+        return joined_lines(alloc, text);
+    }
     let Some(digits) = input.strip_prefix("hex") else {
         return Ok(Vec::from_slice(alloc, input.as_bytes())?);
     };

@@ -59,7 +59,7 @@ pub(crate) fn run<R: Threads + Sync, G: Gate>(
         per_call,
         numbers(alloc, ends.failing_write)?,
     )?;
-    let mut notes = MemSink::new(alloc, 1_000, per_call, numbers(alloc, ends.failing_note)?)?;
+    let mut notes = MemSink::new(alloc, 20_000, per_call, numbers(alloc, ends.failing_note)?)?;
     let status = trex_main(rt, alloc, &words, &mut input, &mut out, &mut notes, gates);
     Ok(Ran { status, out, notes })
 }

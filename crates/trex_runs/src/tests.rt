@@ -4,6 +4,7 @@ mod failing;
 mod gates;
 mod long;
 mod samples;
+mod sessions;
 
 use crate::memory::{Ends, Ran, run};
 use std::alloc::Global;
