@@ -1,4 +1,5 @@
-# Completes the commands of trex and their options in bash, and files behind < and >: source docs/trex.bash.
+# Completes the commands of trex and their options in bash, and files behind < and >: source docs/trex.bash. Where the package bash-completion is
+# installed, a copy named ~/.local/share/bash-completion/completions/trex is found by itself.
 _trex() {
   local word=${COMP_WORDS[COMP_CWORD]} before=${COMP_WORDS[COMP_CWORD-1]} options='' option left=''
   COMPREPLY=()
