@@ -286,10 +286,19 @@ pub record BeginsAt (lists : List (List Slot)) (place : ℕ) : Type 0 where
   pub there : slice_get lists place ≡ Some (slot ∷ rest)
   pub least : AllByRecursion (BeginsNotBefore key_of slot) lists
 
-pub begins_at : (lists : List (List Slot)) (head : Reverse Head) (heads : List (Reverse Head)) → AreHeads lists heads
-    → IsHeadIn lists head.0 → IsUpperBound least_first head heads → BeginsAt lists head.0.place
-begins_at lists head heads known mine above =
-    record { slot = mine.slot; rest = mine.rest; there = mine.there; least = least_head lists head heads mine.slot head.0.place mine.is known above }
+-- a head isn't less than itself
+not_less_itself : (head : Reverse Head) → lt_by_cmp least_first head head ≡ false
+not_less_itself head = grind (arith, nat_tests)
+
+pub begins_at : (lists : List (List Slot)) (head : Reverse Head) (others : List (Reverse Head)) → AreHeads lists (head ∷ others)
+    → IsUpperBound least_first head others → BeginsAt lists head.0.place
+begins_at lists head others known above =
+    let mine = known.each.0 in record {
+      slot = mine.slot;
+      rest = mine.rest;
+      there = mine.there;
+      least = least_head lists head (head ∷ others) mine.slot head.0.place mine.is known (not_less_itself head, above);
+    }
 
 -- a list without a length has nothing
 pub no_items : {X : Type 0} (xs : List X) → length xs ≡ 0 → xs ≡ []
