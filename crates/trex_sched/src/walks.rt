@@ -174,23 +174,24 @@ fn take_lesser(others: &mut BinaryHeap<Reverse<Head>>, head: Head) -> Head
     ensures heap { IsHeap least_first (heap_items others.new) }
 {
     match others.peek() {
-        Some(Reverse(least)) if *least < head => exchange(others, head),
+        Some(Reverse(least)) if *least < head => {
+            let least = *least;
+            replace_least(others, head);
+            least
+        }
         _ => head,
     }
 }
 
-/// Takes the least head out of a heap, and puts a greater one into its place.
-fn exchange(others: &mut BinaryHeap<Reverse<Head>>, head: Head) -> Head
-    requires some { 0 < heap_len others.old }
-    requires heap { IsHeap least_first (heap_items others.old) }
-    ensures heads { IsPermutation (record { 0 = head } ∷ heap_items others.old) (record { 0 = result } ∷ heap_items others.new) }
-    ensures least { IsFirst (Some result) (heap_items others.old) }
-    ensures heap { IsHeap least_first (heap_items others.new) }
+/// Puts a head into a heap in place of the least one.
+fn replace_least(heads: &mut BinaryHeap<Reverse<Head>>, head: Head)
+    requires some { 0 < heap_len heads.old }
+    requires heap { IsHeap least_first (heap_items heads.old) }
+    ensures heads { IsPermutation (record { 0 = head } ∷ drop 1 (heap_items heads.old)) (heap_items heads.new) }
+    ensures heap { IsHeap least_first (heap_items heads.new) }
 {
-    let mut top = others.peek_mut().unwrap();
-    let least = top.0;
-    *top = Reverse(head);
-    least
+    let mut least = heads.peek_mut().unwrap();
+    *least = Reverse(head);
 }
 
 #[cfg(test)]
