@@ -21,7 +21,19 @@ pub fn sum_words(bytes: &[u8]) -> u64
         total += sum_four_words(front);
         rest = back;
     }
-    total + sum_each_word(rest)
+    // The last seven bytes at most: two words, one word, one byte.
+    if let [first_high, first_low, second_high, second_low, tail @ ..] = rest {
+        total += word_of(*first_high, *first_low) + word_of(*second_high, *second_low);
+        rest = tail;
+    }
+    if let [high, low, tail @ ..] = rest {
+        total += word_of(*high, *low);
+        rest = tail;
+    }
+    if let [last] = rest {
+        total += word_of(*last, 0);
+    }
+    total
 }
 
 /// The sum of the four words in eight bytes, which are read as one number.
@@ -36,22 +48,11 @@ fn sum_four_words(bytes: &[u8]) -> u64
     (word >> 48) + (word >> 32) % 65536 + (word >> 16) % 65536 + word % 65536
 }
 
-/// The sum of some bytes, word by word.
-fn sum_each_word(bytes: &[u8]) -> u64
-    requires { length bytes.now < 2 ^ 40 }
-    ensures value { result ≡ sum_of bytes.now }
-    ensures bound { result ≤ 65536 * length bytes.now }
+/// The word of two bytes.
+fn word_of(high: u8, low: u8) -> u64
+    ensures { result ≡ 256 * high + low }
 {
-    let mut total = 0;
-    let mut rest = bytes;
-    while let [high, low, tail @ ..] = rest {
-        total += u64::from(*high) * 256 + u64::from(*low);
-        rest = tail;
-    }
-    if let [last] = rest {
-        total += u64::from(*last) * 256;
-    }
-    total
+    u64::from(high) * 256 + u64::from(low)
 }
 
 /// The ones' complement fold of a sum into 16 bits: 0 only for 0 (RFC 1071, section 1).
