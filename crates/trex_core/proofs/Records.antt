@@ -48,8 +48,13 @@ pub length-records_text : (base : ℕ) (fs : List Frame) → length (records_tex
 length-records_text base [] = refl
 length-records_text base (f ∷ fs) =
     let record_f = record_of (packet_at base f) in
-    omega (arith, length-records_text base fs, length-append record_f (records_text base fs), length-record_of base f,
-    sum_by-cons (λ (x : Frame). length x.bytes) f fs)
+    omega (
+      arith,
+      length-records_text base fs,
+      length-append record_f (records_text base fs),
+      length-record_of base f,
+      sum_by-cons (λ (x : Frame). length x.bytes) f fs,
+    )
 
 -- what is known of packets and their records give the packets back
 pub frames_of-records : (base : ℕ) (fs : List Frame) → frames_of (map waiting_of fs) (records_text base fs) ≡ fs
@@ -121,17 +126,41 @@ other_records base n fs =
     let front = records_text base (take n fs) in
     ap (drop (length front)) (records_text-parts base n fs) ∙ drop_at front (records_text base (drop n fs)) (length front) refl
 
--- a batch after its first packets
-pub batch_behind : (base n : ℕ) (ws : List Waiting) (text : List ℕ) → AreBatch base ws text
-    → AreBatch base (drop n ws) (drop (length (records_text base (take n (frames_of ws text)))) text)
-    × (frames_of (drop n ws) (drop (length (records_text base (take n (frames_of ws text)))) text) ≡ drop n (frames_of ws text))
-batch_behind base n ws text batch =
+-- the records of a batch's first packets are as long as what is known of them tells
+pub length-first_records : (base n : ℕ) (ws : List Waiting) (text : List ℕ) → AreBatch base ws text
+    → text_length (take n ws) ≡ length (records_text base (take n (frames_of ws text)))
+length-first_records base n ws text batch =
     let fs = frames_of ws text in
-    let passed = length (records_text base (take n fs)) in
-    batch_of_frames base (drop n ws) (drop passed text) (drop n fs)
-    (ap (drop n) batch.known ∙ drop-map waiting_of n fs)
-    (ap (drop passed) batch.records ∙ other_records base n fs)
-    (within_drop n fs batch.within)
+    ap (λ (v : List Waiting). text_length (take n v)) batch.known ∙ ap text_length (take-map waiting_of n fs) ∙ text_length-waiting base (take n fs)
+
+-- they are the front of its text
+pub first_records_of : (base n : ℕ) (ws : List Waiting) (text : List ℕ) → AreBatch base ws text
+    → (take (text_length (take n ws)) text ≡ records_text base (take n (frames_of ws text))) × (text_length (take n ws) ≤ length text)
+first_records_of base n ws text batch =
+    let fs = frames_of ws text in
+    let long = length-first_records base n ws text batch in
+    let parts = records_text-parts base n fs in
+    let sizes = length-append (records_text base (take n fs)) (records_text base (drop n fs)) in (
+      ap (λ (m : ℕ). take m text) long ∙ ap (take (length (records_text base (take n fs)))) batch.records ∙ first_records base n fs,
+      omega (arith, long, ap length batch.records, ap length parts, sizes),
+    )
+
+-- a batch after its first packets, which are passed with their records
+pub batch_behind : (base taken from n passed : ℕ) (packets : List Waiting) (text : List ℕ) → AreBatch base (drop taken packets) (drop from text)
+    → passed ≡ text_length (take n (drop taken packets)) → from ≤ length text
+    → AreBatch base (drop (taken + n) packets) (drop (from + passed) text)
+    × (frames_of (drop (taken + n) packets) (drop (from + passed) text) ≡ drop n (frames_of (drop taken packets) (drop from text)))
+    × (from + passed ≤ length text)
+batch_behind base taken from n passed packets text batch is within =
+    let ws = drop taken packets in
+    let ts = drop from text in
+    let fs = frames_of ws ts in
+    let long = length-first_records base n ws ts batch in
+    let known : drop (taken + n) packets ≡ map waiting_of (drop n fs) = sym (drop-drop n taken packets) ∙ ap (drop n) batch.known ∙ drop-map waiting_of n fs in
+    let records : drop (from + passed) text ≡ records_text base (drop n fs) =
+    sym (drop-drop passed from text) ∙ ap (λ m. drop m ts) (is ∙ long) ∙ ap (drop (length (records_text base (take n fs)))) batch.records ∙ other_records base n fs in
+    let now = batch_of_frames base (drop (taken + n) packets) (drop (from + passed) text) (drop n fs) known records (within_drop n fs batch.within) in
+    (now.0, now.1, omega (arith, is, (first_records_of base n ws ts batch).1, length-drop from text))
 
 -- a batch with one packet more
 pub batch_more : (base : ℕ) (ws : List Waiting) (text : List ℕ) (f : Frame) → AreBatch base ws text → has_room_for (frames_of ws text) (length f.bytes) ≡ true
@@ -156,3 +185,8 @@ batch_long base ws text batch =
 pub none_left : (ws : List Waiting) (text : List ℕ) → is_none_left (frames_of ws text) ≡ eqb (length ws) 0
 none_left [] text = refl
 none_left (w ∷ ws) text = grind (arith, nat_tests)
+
+-- the whole text is as long as what is known of the packets tells
+pub batch_text : (base : ℕ) (ws : List Waiting) (text : List ℕ) → AreBatch base ws text → text_length ws ≡ length text
+batch_text base ws text batch =
+    ap text_length batch.known ∙ text_length-waiting base (frames_of ws text) ∙ ap length (sym batch.records)

@@ -40,10 +40,6 @@ run_stops before most k frames below few stands =
     ∙ ap (run_length before (suc (most - (k + 1)))) rest
     ∙ ap (λ (t : Bool). cond t (suc (run_length before (most - (k + 1)) (drop (k + 1) frames))) 0) stands
 
-no_run : (before : Option Key) (frames : List Frame) → run_length before 0 frames ≡ 0
-no_run before [] = refl
-no_run before (f ∷ frames) = refl
-
 -- a count of the run's packets so far, and the rest of it
 pub abbrev IsCounted : Option Key → ℕ → List Waiting → ℕ → Type 0
 IsCounted before most ws k = (frames : List Frame) → ws ≡ map waiting_of frames → run_length before most frames ≡ k + run_length before (most - k) (drop k frames)
@@ -73,8 +69,10 @@ counted_all before most k ws counted all = λ frames known.
     let none : drop k frames ≡ [] = drop_all k frames (omega (arith, ap length known, length-map frames waiting_of)) in
     omega (arith, counted frames known, ap (run_length before (most - k)) none)
 
-pub counted_most : (before : Option Key) (most k : ℕ) (ws : List Waiting) → IsCounted before most ws k → most ≤ k → (frames : List Frame) → ws ≡ map waiting_of frames
-    → k ≡ run_length before most frames
-counted_most before most k ws counted all = λ frames known.
-    let left : most - k ≡ 0 = omega arith in
-    omega (arith, counted frames known, ap (λ m. run_length before m (drop k frames)) left ∙ no_run before (drop k frames))
+-- a run of at most so many packets is one of the first so many
+pub run_length-take : (before : Option Key) (most : ℕ) (frames : List Frame) → run_length before most frames ≡ run_length before (length (take most frames)) (take most frames)
+run_length-take before zero [] = refl
+run_length-take before (suc most) [] = refl
+run_length-take before zero (f ∷ frames) = refl
+run_length-take before (suc most) (f ∷ frames) =
+    ap (λ n. cond (stands_before (key_of f) before) (suc n) 0) (run_length-take before most frames)

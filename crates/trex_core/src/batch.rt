@@ -8,6 +8,7 @@ ghost use Rattle.trex_core.specs.Texts.{records_text};
 ghost use Rattle.trex_merge.specs.Frames.{Frame, frame_of, key_of};
 ghost use Rattle.trex_merge.specs.Queues.{is_none_left};
 ghost use Rattle.trex_merge.specs.Runs.{run_length, stands_before};
+ghost use Rattle.trex_pcap.specs.Writing.{record_of};
 
 use crate::run::Run;
 use crate::waiting::Waiting;
@@ -101,9 +102,7 @@ impl Batch {
         let length = bytes.len();
         self.packets.push(Waiting { key, length }).unwrap();
         let time = u64::from(self.base) * NANOSECONDS_PER_SECOND + key.time;
-        let header = record_header(time, length as u32);
-        self.text.extend_from_slice(&header).unwrap();
-        self.text.extend_from_slice(bytes).unwrap();
+        add_record(&mut self.text, time, bytes);
     }
 
     /// The first packet that waits.
@@ -143,8 +142,8 @@ impl Batch {
         ensures packets { result.packets.now ≡ map waiting_of (take (run_length before most self.now.waiting) self.now.waiting) }
         ensures text { result.text.now ≡ records_text self.now.base (take (run_length before most self.now.waiting) self.now.waiting) }
     {
-        let packets = &self.packets[self.taken..];
-        let (count, bytes) = measure_run(packets, before, most);
+        let packets = front_of(&self.packets[self.taken..], most);
+        let (count, bytes) = measure_run(packets, before);
         Run {
             packets: &packets[..count],
             text: &self.text[self.from..self.from + bytes],
@@ -177,6 +176,19 @@ fn is_room(packets: usize, bytes: usize, count: usize) -> bool
     packets < BATCH_PACKETS && count <= BATCH_BYTES - bytes
 }
 
+/// Adds the record of a packet, whose absolute time is in nanoseconds, to a text that has room for it.
+fn add_record(text: &mut Vec<u8>, time: u64, bytes: &[u8])
+    requires time { time < 2 ^ 32 * 10 ^ 9 }
+    requires small { length bytes.now < 2 ^ 32 }
+    requires room { vec_len text.old + (RECORD_HEADER + length bytes.now) ≤ vec_capacity text.old }
+    ensures items { text.new.items ≡ text.old.items ++ record_of (record { time = time; bytes = bytes.now }) }
+    ensures capacity { vec_capacity text.new ≡ vec_capacity text.old }
+{
+    let header = record_header(time, bytes.len() as u32);
+    text.extend_from_slice(&header).unwrap();
+    text.extend_from_slice(bytes).unwrap();
+}
+
 /// Whether a packet stands before a key, or there is none.
 fn stands_before(key: &Key, before: Option<Key>) -> bool
     ensures { result ≡ stands_before key.now before }
@@ -187,21 +199,32 @@ fn stands_before(key: &Key, before: Option<Key>) -> bool
     }
 }
 
-/// How many packets at the front stand before a key, or all where there is none, but at most so many; and how many bytes their records have.
-fn measure_run(packets: &[Waiting], before: Option<Key>, most: u64) -> (usize, usize)
-    requires short { text_length packets.now < 2 ^ 40 }
-    ensures packets { (frames : List Frame) → packets.now ≡ map waiting_of frames → result.0 ≡ run_length before most frames }
+/// The first packets, at most so many.
+fn front_of(packets: &[Waiting], most: u64) -> &[Waiting]
+    ensures { result.now ≡ take most packets.now }
+{
+    if most < packets.len() as u64 {
+        &packets[..most as usize]
+    } else {
+        packets
+    }
+}
+
+/// How many packets at the front stand before a key, or all where there is none; and how many bytes their records have.
+fn measure_run(packets: &[Waiting], before: Option<Key>) -> (usize, usize)
+    requires { text_length packets.now < 2 ^ 40 }
+    ensures packets { (frames : List Frame) → packets.now ≡ map waiting_of frames → result.0 ≡ run_length before (length packets.now) frames }
     ensures within { result.0 ≤ length packets.now }
     ensures bytes { result.1 ≡ text_length (take result.0 packets.now) }
 {
     let mut count = 0;
     let mut bytes = 0;
-    while count < packets.len()
-        && (count as u64) < most
-        && stands_before(&packets[count].key, before)
-    {
-        bytes += RECORD_HEADER + packets[count].length;
+    for packet in packets {
+        if !stands_before(&packet.key, before) {
+            return (count, bytes);
+        }
         count += 1;
+        bytes += RECORD_HEADER + packet.length;
     }
     (count, bytes)
 }

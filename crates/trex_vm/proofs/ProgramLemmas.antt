@@ -95,11 +95,12 @@ trim-takes count i other is takes = let Takes : Option Operand → Type 0 = λ o
 -- the operand of the first trim takes from the variables as its instruction does
 pub first_trim-takes : (count : ℕ) (instrs : List Instr) (from : Operand) → first_trim instrs ≡ Some from → AllByRecursion (TakesFrom count) instrs → from.var < count
 first_trim-takes count [] from is takes = absurd (cc)
-first_trim-takes count (i ∷ rest) from is takes = by_trim (trim_of i) refl is
+first_trim-takes count (i ∷ rest) from is takes = by_trim (trim_of i) (λ other same. trim-takes count i other same takes.0) (λ later. first_trim-takes count rest from later takes.1) is
   where
-    by_trim : (trim : Option Operand) → trim_of i ≡ trim → option_map_or (λ it. Some it) trim (first_trim rest) ≡ Some from → from.var < count
-    by_trim None same later = first_trim-takes count rest from later takes.1
-    by_trim (Some other) same here = trim-takes count i from (same ∙ here) takes.0
+    by_trim : (trim : Option Operand) → ((other : Operand) → trim ≡ Some other → other.var < count) → (first_trim rest ≡ Some from → from.var < count)
+        → option_map_or (λ it. Some it) trim (first_trim rest) ≡ Some from → from.var < count
+    by_trim None here later same = later same
+    by_trim (Some other) here later same = here from same
 
 -- the packet's length is the number of the first trim's operand, or the whole template's length where there is none
 pub trimmed-first_trim : (values : List VarValue) (instrs : List Instr) (whole : ℕ) → trimmed values instrs whole ≡ option_map_or (number_in values) (first_trim instrs) whole

@@ -95,6 +95,7 @@ impl Program {
         requires { AreValuesOf self.now values.now }
         ensures value { result ≡ trimmed values.now self.now.instrs self.now.template }
         ensures within { result ≤ self.now.template }
+        ensures sound { IsProgram self.now }
     {
         match self.trim {
             Some(from) => number_in(values, from) as usize,

@@ -53,12 +53,7 @@ pub fn run_plain(
 
 /// Makes a packet in place of the front of its template, which is as long as the packet: writes the latency header in place of the last bytes,
 /// where there is one, and applies the program's other instructions in order.
-pub fn finish_packet(
-    program: &Program,
-    values: &[VarValue],
-    stamp: Option<Stamp>,
-    bytes: &mut [u8],
-)
+pub fn finish_packet(program: &Program, values: &[VarValue], stamp: Option<Stamp>, bytes: &mut [u8])
     requires front { IsFrontOf program.now values.now bytes.old }
     requires values { AreValuesOf program.now values.now }
     requires stamp { version_of stamp ≡ program.now.stamp }

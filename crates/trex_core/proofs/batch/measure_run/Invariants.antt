@@ -1,14 +1,11 @@
-use Rattle.std.proofs.Common.{◌≡◌, ◌-◌, ◌≤◌, length, take}
+use Rattle.std.proofs.Common.{◌≡◌, length, take}
 use Rattle.trex_core.specs.Records.{text_length}
 use Rattle.trex_core.proofs.RunLemmas.{IsCounted}
 use Rattle.trex_core.proofs.batch.measure_run.Given as goal
 
-abbrev pub invariant-loop-count : goal.invariant-loop-count
-invariant-loop-count l = record {
-  below : l.count ≤ length l.packets;
-  counted : IsCounted l.before l.most l.packets l.count;
-  bytes : l.bytes ≡ text_length (take l.count l.packets);
+abbrev pub invariant-loop-packet : goal.invariant-loop-packet
+invariant-loop-packet l = record {
+  counted : IsCounted l.before (length l.packets) l.packets l.count;
+  count : l.count ≡ l.packet-index;
+  bytes : l.bytes ≡ text_length (take l.packet-index l.packets);
 }
-
-abbrev pub decreases-loop-count : goal.decreases-loop-count
-decreases-loop-count l = length l.packets - l.count

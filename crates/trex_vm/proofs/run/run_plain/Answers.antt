@@ -1,8 +1,7 @@
-use Rattle.std.proofs.Common.{◌≡◌, ◌≤◌, ◌-◌, ◌+◌, ◌++◌, ℕ, List, length, take, drop, sym, ap, subst, ◌∙◌, arith, Option}
-use Rattle.std.proofs.lemmas.List.{take_at, drop_at, drop-drop}
+use Rattle.std.proofs.Common.{◌≡◌, ◌≤◌, ◌++◌, ℕ, List, length, take, drop, sym, ap, subst, ◌∙◌, arith, Option}
+use Rattle.std.proofs.lemmas.List.{length-take-le, take_at}
 use Rattle.trex_stamp.specs.declared.header.Stamp.{Stamp}
 use Rattle.trex_vars.specs.declared.value.VarValue.{VarValue}
-use Rattle.trex_vm.specs.declared.instr.Instr.{Instr}
 use Rattle.trex_vm.specs.Packet.{after_all, trimmed, version_of, stamped, packet}
 use Rattle.trex_vm.specs.Cover.{StaysFixed, HeaderVerifies}
 use Rattle.trex_vm.specs.Program.{ProgramView, IsProgram, IsTemplateOf, AreValuesOf}
@@ -29,10 +28,21 @@ made p values stamp template n front bytes found copied is =
     is ∙ ap (λ (b : List ℕ). after_all values p.instrs (stamped stamp b)) (copied ∙ ap (λ (m : ℕ). take m template) found.len) in
     (whole, ap length whole ∙ length-packet p values stamp template found.runs ∙ sym found.len)
 
--- what stands behind the template's length stays, whatever shorter piece is written
-behind : (n whole : ℕ) (new old : List ℕ) → n ≤ whole → length new ≡ n → drop whole (new ++ drop n old) ≡ drop whole old
-behind n whole new old short long =
-    let reach : whole ≡ n + (whole - n) = omega arith in
-    let all = new ++ drop n old in
-    ap (λ (m : ℕ). drop m all) reach ∙ sym (drop-drop (whole - n) n all) ∙ ap (drop (whole - n)) (drop_at new (drop n old) n long)
-    ∙ drop-drop (whole - n) n old ∙ ap (λ (m : ℕ). drop m old) (sym reach)
+pub returns-clause-verifies : goal.returns-clause-verifies
+returns-clause-verifies c = λ before fix later is.
+    let p = c.args.program.now in
+    let values = c.args.values.now in
+    let stamp = c.args.stamp in
+    let template = c.args.template.now in
+    let n = c.packet_length-len.result in
+    let copy = c.copy_from_slice.new.self in
+    let out = copy ++ drop n c.args.out.now in
+    let bytes = c.finish_packet.new.bytes in
+    let found = finds p values stamp template n c.packet_length-len.ensures.sound c.requires.template c.requires.values c.requires.stamp c.packet_length-len.ensures.value in
+    let short : n ≤ length template = omega (arith, c.packet_length-len.ensures.within, c.requires.template.long) in
+    let long : length copy ≡ n = ap length c.copy_from_slice.ensures.after ∙ length-take-le n template short in
+    let copied : take n out ≡ take n template = take_at copy (drop n c.args.out.now) n long ∙ c.copy_from_slice.ensures.after in
+    let packet_is = made p values stamp template n (take n out) bytes found copied c.finish_packet.ensures in
+    let whole = take_at bytes (drop n out) n packet_is.1 ∙ packet_is.0 in
+    let Goal : List ℕ → Type 0 = λ b. StaysFixed fix later b → HeaderVerifies fix b in
+    subst Goal (sym whole) (packet-verifies p values stamp template found.runs before fix later is)
