@@ -1,5 +1,6 @@
 pub mod Plan
 pub mod Batches
+pub mod Texts
 pub mod Records
 pub mod Works
 pub mod Registers

@@ -66,9 +66,11 @@ same_frames (x ∷ xs) (y ∷ ys) same =
 pub turned_by_stem : (old new : Work) → IsWithin old.queue.waiting → new.core ≡ old.core → new.turns ≡ old.turns + 1
     → stem_numbers new ≡ stem_numbers old → IsSettled new.queue → new ≡ turned old
 turned_by_stem old new within core turns same settled =
-    let stems : stem new.queue ≡ stem old.queue = same_frames (stem new.queue) (stem old.queue) same in
+    let base : new.base ≡ old.base = cc in
+    let frames : map numbers_of (stem new.queue) ≡ map numbers_of (stem old.queue) = cc in
+    let stems : stem new.queue ≡ stem old.queue = same_frames (stem new.queue) (stem old.queue) frames in
     let waiting : new.queue.waiting ≡ batch_of (stem old.queue) = settled ∙ ap batch_of stems in
     let more : length old.queue.waiting ≤ length (batch_of (stem old.queue)) = batch_longest old.queue.waiting (stem old.queue) within (old.queue.coming, refl) in
     let longer : length old.queue.waiting ≤ length new.queue.waiting = omega (arith, more, ap length waiting) in
     let queue = turned_is old.queue new.queue stems longer waiting in
-    λ i. record { core = core i; turns = turns i; queue = queue i }
+    λ i. record { core = core i; turns = turns i; base = base i; queue = queue i }

@@ -1,14 +1,16 @@
 -- The work of a core: its turns, and what they do. Own.
-use Rattle.std.specs.Prelude.{◌≡◌, ℕ, ◌+◌, ◌-◌, ◌<◌, ◌≤◌, ◌^◌, List, ◌∷◌, length, map}
+use Rattle.std.specs.Prelude.{◌≡◌, ℕ, ◌+◌, ◌-◌, ◌<◌, ◌≤◌, ◌^◌, List, [], ◌∷◌, length, map}
 use Rattle.trex_merge.specs.Frames.{Frame}
 use Rattle.trex_merge.specs.Queues.{Queue, refilled, stem}
 use Rattle.trex_core.specs.declared.maker.TheConstants.{LONGEST_PACKET}
 use Rattle.trex_core.specs.Batches.{batch_of}
 
--- a core, how many turns it took, and its packets: those that wait and those that are to come
+-- a core, how many turns it took, the seconds since 1970 from which its packets' times count, and its packets: those that wait and those that
+-- are to come
 pub record Work : Type 0 where
   pub core : ℕ
   pub turns : ℕ
+  pub base : ℕ
   pub queue : Queue
 
 -- how many packets a refill adds
@@ -17,7 +19,7 @@ added queue = length (batch_of (stem queue)) - length queue.waiting
 
 -- the work after one turn more, which refills its batch
 abbrev pub turned : Work → Work
-turned work = record { core = work.core; turns = work.turns + 1; queue = refilled (added work.queue) work.queue }
+turned work = record { core = work.core; turns = work.turns + 1; base = work.base; queue = refilled (added work.queue) work.queue }
 
 -- a packet that a core makes: no longer than a packet may be, and early enough that its absolute time doesn't overflow
 pub record IsMade (frame : Frame) : Type 0 where
@@ -32,6 +34,6 @@ IsSettled queue = queue.waiting ≡ batch_of (stem queue)
 abbrev pub numbers_of : Frame → List ℕ
 numbers_of frame = frame.time ∷ frame.stream ∷ frame.number ∷ frame.bytes
 
--- what a turn leaves as it is: all packets, those that wait and then those that are to come
+-- what a turn leaves as it is: the base, and all packets, those that wait and then those that are to come
 abbrev pub stem_numbers : Work → List (List ℕ)
-stem_numbers work = map numbers_of (stem work.queue)
+stem_numbers work = (work.base ∷ []) ∷ map numbers_of (stem work.queue)

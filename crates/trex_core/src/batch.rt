@@ -1,124 +1,170 @@
 // The packets that wait in a core's batch.
 
-ghost use Rattle.std.specs.Prelude.{◌≡◌, ◌+◌, ◌-◌, ◌<◌, ◌≤◌, ◌++◌, ◌∷◌, ◌&&◌, [], nat_lt, nat_le, true, IfOk, length, drop, option_map, slice_get, vec_len};
+ghost use Rattle.std.specs.Prelude.{◌≡◌, ◌+◌, ◌*◌, ◌-◌, ◌<◌, ◌≤◌, ◌^◌, ◌++◌, ◌∷◌, ◌&&◌, List, [], nat_lt, nat_le, true, IfOk, length, map, take, drop, option_map, slice_get, vec_len};
 ghost use Rattle.std.specs.Vec.{vec_capacity};
 ghost use Rattle.trex_core.specs.Batches.{IsWithin, has_room_for};
-ghost use Rattle.trex_core.specs.Records.{frame_with};
-ghost use Rattle.trex_merge.specs.Frames.{frame_of};
+ghost use Rattle.trex_core.specs.Records.{frame_with, text_length, waiting_of};
+ghost use Rattle.trex_core.specs.Texts.{records_text};
+ghost use Rattle.trex_merge.specs.Frames.{Frame, frame_of, key_of};
 ghost use Rattle.trex_merge.specs.Queues.{is_none_left};
+ghost use Rattle.trex_merge.specs.Runs.{run_length, stands_before};
+ghost use Rattle.trex_pcap.specs.Writing.{record_of};
 
-use crate::record::Record;
+use crate::run::Run;
+use crate::waiting::Waiting;
 use std::alloc::Global;
 use std::marker::Model;
 use trex_io::Memory;
-use trex_merge::{Head, Key};
+use trex_merge::{Head, Key, is_before};
+use trex_pcap::record_header;
 
 /// The most packets that a batch holds.
 pub const BATCH_PACKETS: usize = 4_096;
 
-/// The most bytes that a batch holds.
+/// The most bytes that a batch holds, where those of the records' headers don't count.
 pub const BATCH_BYTES: usize = 1_048_576;
 
-/// The packets that wait in a core's batch, in order. All its memory is taken when it is made.
+/// The number of bytes of a record's header.
+pub const RECORD_HEADER: usize = 16;
+
+/// The number of bytes of a full batch with all headers.
+const BATCH_TEXT: usize = BATCH_BYTES + RECORD_HEADER * BATCH_PACKETS;
+
+const NANOSECONDS_PER_SECOND: u64 = 1_000_000_000;
+
+/// The packets that wait in a core's batch, in order, each as its record. All its memory is taken when it is made.
 #[derive(Drop)]
 pub(crate) struct Batch {
-    records: Vec<Record>,
-    // how many of the records were popped
+    // in seconds since 1970
+    base: u32,
+    packets: Vec<Waiting>,
+    // how many of the packets were taken away
     taken: usize,
-    bytes: Vec<u8>,
-    // how many of the bytes were popped
+    // their records
+    text: Vec<u8>,
+    // how many bytes of the records were taken away
     from: usize,
 }
 
 impl Model for Batch {
-    ghost use Rattle.std.specs.Prelude.{◌≡◌, ◌≤◌, List, drop, length, vec_len};
+    ghost use Rattle.std.specs.Prelude.{◌≡◌, ◌≤◌, drop, length, vec_len};
     ghost use Rattle.std.specs.Vec.{vec_capacity};
-    ghost use Rattle.trex_core.specs.declared.batch.TheConstants.{BATCH_PACKETS as PACKETS, BATCH_BYTES as BYTES};
-    ghost use Rattle.trex_merge.specs.Frames.{Frame};
-    ghost use Rattle.trex_core.specs.Records.{frames_of, AreBatch};
+    ghost use Rattle.trex_core.specs.declared.batch.TheConstants.{BATCH_PACKETS as PACKETS, BATCH_TEXT as TEXT};
+    ghost use Rattle.trex_core.specs.Records.{BatchView, frames_of, AreBatch};
 
-    ghost Value = { List Frame };
+    ghost Value = { BatchView };
 
-    ghost view = { λ b. frames_of (drop b.taken b.records.items) (drop b.from b.bytes.items) };
+    ghost view = { λ b. record { base = b.base; waiting = frames_of (drop b.taken b.packets.items) (drop b.from b.text.items) } };
 
-    ghost invariant = { λ b. AreBatch (drop b.taken b.records.items) (drop b.from b.bytes.items)
-        × (b.taken ≤ vec_len b.records) × (b.from ≤ vec_len b.bytes)
-        × (PACKETS ≤ vec_capacity b.records) × (BYTES ≤ vec_capacity b.bytes) };
+    ghost invariant = { λ b. AreBatch b.base (drop b.taken b.packets.items) (drop b.from b.text.items)
+        × (b.taken ≤ vec_len b.packets) × (b.from ≤ vec_len b.text)
+        × (PACKETS ≤ vec_capacity b.packets) × (TEXT ≤ vec_capacity b.text)
+        × (b.base ≤ 3000000000) };
 }
 
 impl Batch {
-    /// A batch in which nothing waits.
-    pub(crate) fn new(alloc: Global) -> Result<Batch, Memory>
-        ensures { IfOk result (λ b. b ≡ []) }
+    /// A batch in which nothing waits. The times of its records count from the base, in seconds since 1970.
+    pub(crate) fn new(alloc: Global, base: u32) -> Result<Batch, Memory>
+        requires { base ≤ 3000000000 }
+        ensures { IfOk result (λ b. b ≡ record { base = base; waiting = [] }) }
     {
-        let records = Vec::with_capacity(alloc, BATCH_PACKETS)?;
-        let bytes = Vec::with_capacity(alloc, BATCH_BYTES)?;
+        let packets = Vec::with_capacity(alloc, BATCH_PACKETS)?;
+        let text = Vec::with_capacity(alloc, BATCH_TEXT)?;
         Ok(Batch {
-            records,
+            base,
+            packets,
             taken: 0,
-            bytes,
+            text,
             from: 0,
         })
     }
 
     /// Whether there is room for one more packet of so many bytes.
     pub(crate) fn has_room_for(&self, count: usize) -> bool
-        ensures value { result ≡ has_room_for self.now count }
-        ensures within { IsWithin self.now }
+        ensures value { result ≡ has_room_for self.now.waiting count }
+        ensures within { IsWithin self.now.waiting }
     {
-        is_room(
-            self.records.len() - self.taken,
-            self.bytes.len() - self.from,
-            count,
-        )
+        let packets = self.packets.len() - self.taken;
+        let text = self.text.len() - self.from;
+        is_room(packets, text - RECORD_HEADER * packets, count)
     }
 
     /// Adds a packet after those that wait.
     pub(crate) fn push(&mut self, key: Key, bytes: &[u8])
-        requires { has_room_for self.old (length bytes.now) ≡ true }
-        ensures { self.new ≡ self.old ++ frame_with key bytes.now ∷ [] }
+        requires room { has_room_for self.old.waiting (length bytes.now) ≡ true }
+        requires time { key.time < 10 ^ 18 }
+        ensures { self.new ≡ record { base = self.old.base; waiting = self.old.waiting ++ frame_with key bytes.now ∷ [] } }
     {
-        remove_front(&mut self.records, self.taken);
+        remove_front(&mut self.packets, self.taken);
         self.taken = 0;
-        remove_front(&mut self.bytes, self.from);
+        remove_front(&mut self.text, self.from);
         self.from = 0;
-        self.records
-            .push(Record {
-                key,
-                length: bytes.len(),
-            })
-            .unwrap();
-        self.bytes.extend_from_slice(bytes).unwrap();
+        let length = bytes.len();
+        self.packets.push(Waiting { key, length }).unwrap();
+        let time = u64::from(self.base) * NANOSECONDS_PER_SECOND + key.time;
+        add_record(&mut self.text, time, bytes);
     }
 
     /// The first packet that waits.
     pub(crate) fn head(&self) -> Option<Head<'_>>
-        ensures { option_map frame_of result ≡ slice_get self.now 0 }
+        ensures { option_map frame_of result ≡ slice_get self.now.waiting 0 }
     {
-        let record = self.records.get(self.taken)?;
+        let first = self.packets.get(self.taken)?;
+        let from = self.from + RECORD_HEADER;
         Some(Head {
-            time: record.key.time,
-            stream: record.key.stream,
-            number: record.key.number,
-            bytes: &self.bytes[self.from..self.from + record.length],
+            time: first.key.time,
+            stream: first.key.stream,
+            number: first.key.number,
+            bytes: &self.text[from..from + first.length],
         })
+    }
+
+    /// The key of the first packet that waits.
+    pub(crate) fn first_key(&self) -> Option<Key>
+        ensures { result ≡ option_map key_of (slice_get self.now.waiting 0) }
+    {
+        let first = self.packets.get(self.taken)?;
+        Some(first.key)
     }
 
     /// Takes the first packet away.
     pub(crate) fn pop(&mut self)
-        requires { 0 < length self.old }
-        ensures { self.new ≡ drop 1 self.old }
+        requires { 0 < length self.old.waiting }
+        ensures { self.new ≡ record { base = self.old.base; waiting = drop 1 self.old.waiting } }
     {
-        let length = self.records[self.taken].length;
+        let length = self.packets[self.taken].length;
         self.taken += 1;
-        self.from += length;
+        self.from += RECORD_HEADER + length;
+    }
+
+    /// Of the packets that wait those at the front that stand before a key, or all where there is none, but at most so many.
+    pub(crate) fn run_before(&self, before: Option<Key>, most: u64) -> Run<'_>
+        ensures packets { result.packets.now ≡ map waiting_of (take (run_length before most self.now.waiting) self.now.waiting) }
+        ensures text { result.text.now ≡ records_text self.now.base (take (run_length before most self.now.waiting) self.now.waiting) }
+    {
+        let packets = front_of(&self.packets[self.taken..], most);
+        let (count, bytes) = measure_run(packets, before);
+        Run {
+            packets: &packets[..count],
+            text: &self.text[self.from..self.from + bytes],
+        }
+    }
+
+    /// Takes the first packets away, so many, whose records have so many bytes.
+    pub(crate) fn drop_run(&mut self, packets: usize, bytes: usize)
+        requires packets { packets ≤ length self.old.waiting }
+        requires bytes { bytes ≡ length (records_text self.old.base (take packets self.old.waiting)) }
+        ensures { self.new ≡ record { base = self.old.base; waiting = drop packets self.old.waiting } }
+    {
+        self.taken += packets;
+        self.from += bytes;
     }
 
     /// Whether nothing waits.
     pub(crate) fn is_empty(&self) -> bool
-        ensures { result ≡ is_none_left self.now }
+        ensures { result ≡ is_none_left self.now.waiting }
     {
-        self.records.len() == self.taken
+        self.packets.len() == self.taken
     }
 }
 
@@ -128,6 +174,59 @@ fn is_room(packets: usize, bytes: usize, count: usize) -> bool
     ensures { result ≡ (nat_lt packets BATCH_PACKETS && nat_le (bytes + count) BATCH_BYTES) }
 {
     packets < BATCH_PACKETS && count <= BATCH_BYTES - bytes
+}
+
+/// Adds the record of a packet, whose absolute time is in nanoseconds, to a text that has room for it.
+fn add_record(text: &mut Vec<u8>, time: u64, bytes: &[u8])
+    requires time { time < 2 ^ 32 * 10 ^ 9 }
+    requires small { length bytes.now < 2 ^ 32 }
+    requires room { vec_len text.old + (RECORD_HEADER + length bytes.now) ≤ vec_capacity text.old }
+    ensures items { text.new.items ≡ text.old.items ++ record_of (record { time = time; bytes = bytes.now }) }
+    ensures capacity { vec_capacity text.new ≡ vec_capacity text.old }
+{
+    let header = record_header(time, bytes.len() as u32);
+    text.extend_from_slice(&header).unwrap();
+    text.extend_from_slice(bytes).unwrap();
+}
+
+/// Whether a packet stands before a key, or there is none.
+fn stands_before(key: &Key, before: Option<Key>) -> bool
+    ensures { result ≡ stands_before key.now before }
+{
+    match before {
+        Some(other) => is_before(key, &other),
+        None => true,
+    }
+}
+
+/// The first packets, at most so many.
+fn front_of(packets: &[Waiting], most: u64) -> &[Waiting]
+    ensures { result.now ≡ take most packets.now }
+{
+    if most < packets.len() as u64 {
+        &packets[..most as usize]
+    } else {
+        packets
+    }
+}
+
+/// How many packets at the front stand before a key, or all where there is none; and how many bytes their records have.
+fn measure_run(packets: &[Waiting], before: Option<Key>) -> (usize, usize)
+    requires { text_length packets.now < 2 ^ 40 }
+    ensures packets { (frames : List Frame) → packets.now ≡ map waiting_of frames → result.0 ≡ run_length before (length packets.now) frames }
+    ensures within { result.0 ≤ length packets.now }
+    ensures bytes { result.1 ≡ text_length (take result.0 packets.now) }
+{
+    let mut count = 0;
+    let mut bytes = 0;
+    for packet in packets {
+        if !stands_before(&packet.key, before) {
+            return (count, bytes);
+        }
+        count += 1;
+        bytes += RECORD_HEADER + packet.length;
+    }
+    (count, bytes)
 }
 
 /// Takes the first n items out.

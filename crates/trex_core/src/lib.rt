@@ -6,14 +6,17 @@ mod batch;
 mod laws;
 mod maker;
 mod plan;
-mod record;
 mod registers;
+mod run;
 #[cfg(test)]
 mod tests;
+mod waiting;
 mod work;
 
-pub use batch::{BATCH_BYTES, BATCH_PACKETS};
+pub use batch::{BATCH_BYTES, BATCH_PACKETS, RECORD_HEADER};
 pub use laws::{batches_are_longest, plans_rise, turns_keep_packets};
 pub use maker::LONGEST_PACKET;
 pub use plan::Plan;
+pub use run::Run;
+pub use waiting::Waiting;
 pub use work::CoreWork;

@@ -64,6 +64,14 @@ impl<'p> Plan<'p> {
         Ok(walks)
     }
 
+    /// The base, in seconds since 1970.
+    pub(crate) fn base(&self) -> u32
+        ensures value { result ≡ self.now.base }
+        ensures small { result ≤ 3000000000 }
+    {
+        self.base
+    }
+
     /// The number of streams.
     pub(crate) fn streams(&self) -> usize
         ensures { result ≡ length self.now.profile }

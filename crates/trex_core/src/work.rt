@@ -1,21 +1,26 @@
 // The work of a core: its packets, made in turns.
 
-ghost use Rattle.std.specs.Prelude.{◌≡◌, ◌+◌, ◌<◌, ◌≤◌, ◌^◌, [], ◌∷◌, ◌++◌, IfOk, IfSome, false, length, map};
+ghost use Rattle.std.specs.Prelude.{◌≡◌, ◌+◌, ◌<◌, ◌≤◌, ◌^◌, [], ◌∷◌, ◌++◌, IfOk, IfSome, false, length, map, take, drop, slice_get};
 ghost use Rattle.std.specs.List.{AllByRecursion};
+ghost use Rattle.std.specs.Option.{option_map};
 ghost use Rattle.trex_core.specs.Batches.{IsWithin, batch_of};
 ghost use Rattle.trex_core.specs.Plan.{IsSlotOf, frame_at, frames_of_plan};
+ghost use Rattle.trex_core.specs.Records.{waiting_of};
+ghost use Rattle.trex_core.specs.Texts.{records_text};
 ghost use Rattle.trex_core.specs.Works.{IsMade, turned};
-ghost use Rattle.trex_merge.specs.Frames.{share};
+ghost use Rattle.trex_merge.specs.Frames.{key_of, share};
 ghost use Rattle.trex_merge.specs.Queues.{is_needy, stem};
+ghost use Rattle.trex_merge.specs.Runs.{run_length};
 
 use crate::batch::Batch;
 use crate::maker::{LONGEST_PACKET, Maker};
 use crate::plan::Plan;
+use crate::run::Run;
 use std::alloc::Global;
 use std::marker::Model;
 use trex_claims::Piece;
 use trex_io::Memory;
-use trex_merge::{Feed, Head, Keyed};
+use trex_merge::{Feed, Head, Key, Keyed};
 use trex_sched::Walks;
 
 /// The packets of one core of a plan: those that wait in its batch, and those that it has still to make.
@@ -43,12 +48,14 @@ impl<'p> Model for CoreWork<'p> {
     ghost view = { λ w. record {
       core = w.core;
       turns = w.turns;
-      queue = record { waiting = w.batch; coming = map (frame_at w.maker.profile w.maker.base) w.walks };
+      base = w.batch.base;
+      queue = record { waiting = w.batch.waiting; coming = map (frame_at w.maker.profile w.maker.base) w.walks };
     } };
 
     ghost invariant = { λ w. AllByRecursion (IsSlotOf w.maker.profile) w.walks
-        × IsWithin w.batch
-        × AllByRecursion IsMade w.batch
+        × IsWithin w.batch.waiting
+        × AllByRecursion IsMade w.batch.waiting
+        × (w.batch.base ≡ w.maker.base)
         × (vec_len w.scratch ≡ LONGEST) };
 }
 
@@ -66,12 +73,13 @@ impl<'p> CoreWork<'p> {
         ensures { IfOk result (λ work. work ≡ record {
           core = core;
           turns = 0;
+          base = plan.now.base;
           queue = record { waiting = []; coming = share core cores (frames_of_plan plan.now) };
         }) }
     {
         let walks = plan.walks(alloc, core, cores)?;
         let maker = Maker::new(alloc, plan, core, cores)?;
-        let batch = Batch::new(alloc)?;
+        let batch = Batch::new(alloc, plan.base())?;
         let scratch = vec![in alloc; 0; LONGEST_PACKET]?;
         Ok(CoreWork {
             core,
@@ -100,21 +108,52 @@ impl<'p> CoreWork<'p> {
         );
         self.turns += 1;
     }
+
+    /// The key of the first packet that waits.
+    pub fn first_key(&self) -> Option<Key>
+        ensures { result ≡ option_map key_of (slice_get self.now.queue.waiting 0) }
+    {
+        self.batch.first_key()
+    }
+
+    /// Of the packets that wait those at the front that stand before a key, or all where there is none, but at most so many.
+    pub fn run_before(&self, before: Option<Key>, most: u64) -> Run<'_>
+        ensures packets { result.packets.now ≡ map waiting_of (take (run_length before most self.now.queue.waiting) self.now.queue.waiting) }
+        ensures text { result.text.now ≡ records_text self.now.base (take (run_length before most self.now.queue.waiting) self.now.queue.waiting) }
+        ensures made { AllByRecursion IsMade self.now.queue.waiting }
+    {
+        self.batch.run_before(before, most)
+    }
+
+    /// Takes the first packets that wait away, so many, whose records have so many bytes.
+    pub fn drop_run(&mut self, packets: usize, bytes: usize)
+        requires packets { packets ≤ length self.old.queue.waiting }
+        requires bytes { bytes ≡ length (records_text self.old.base (take packets self.old.queue.waiting)) }
+        ensures { self.new ≡ record {
+          core = self.old.core;
+          turns = self.old.turns;
+          base = self.old.base;
+          queue = record { waiting = drop packets self.old.queue.waiting; coming = self.old.queue.coming };
+        } }
+    {
+        self.batch.drop_run(packets, bytes);
+    }
 }
 
 /// Puts packets to a batch, until one doesn't fit or none is left.
 fn fill(maker: &mut Maker<'_>, walks: &mut Walks<'_>, batch: &mut Batch, scratch: &mut [u8])
     requires slots { AllByRecursion (IsSlotOf maker.old.profile) walks.old }
-    requires within { IsWithin batch.old }
-    requires made { AllByRecursion IsMade batch.old }
+    requires within { IsWithin batch.old.waiting }
+    requires made { AllByRecursion IsMade batch.old.waiting }
     requires scratch { length scratch.old ≡ LONGEST_PACKET }
-    ensures stem { batch.new ++ map (frame_at maker.old.profile maker.old.base) walks.new
-        ≡ batch.old ++ map (frame_at maker.old.profile maker.old.base) walks.old }
-    ensures more { length batch.old ≤ length batch.new }
-    ensures settled { batch.new ≡ batch_of (batch.old ++ map (frame_at maker.old.profile maker.old.base) walks.old) }
-    ensures calm { batch.new ≡ [] → walks.new ≡ [] }
+    ensures stem { batch.new.waiting ++ map (frame_at maker.old.profile maker.old.base) walks.new
+        ≡ batch.old.waiting ++ map (frame_at maker.old.profile maker.old.base) walks.old }
+    ensures more { length batch.old.waiting ≤ length batch.new.waiting }
+    ensures settled { batch.new.waiting ≡ batch_of (batch.old.waiting ++ map (frame_at maker.old.profile maker.old.base) walks.old) }
+    ensures calm { batch.new.waiting ≡ [] → walks.new ≡ [] }
     ensures slots { AllByRecursion (IsSlotOf maker.old.profile) walks.new }
-    ensures made { AllByRecursion IsMade batch.new }
+    ensures made { AllByRecursion IsMade batch.new.waiting }
+    ensures base { batch.new.base ≡ batch.old.base }
     ensures maker { maker.new ≡ maker.old }
 {
     'packets: while let Some(slot) = walks.peek() {
@@ -135,7 +174,7 @@ impl<'p> Feed for CoreWork<'p> {
 
     ghost queue = { λ w. w.queue };
 
-    ghost mark = { λ w. w.core ∷ w.turns ∷ [] };
+    ghost mark = { λ w. w.core ∷ w.turns ∷ w.base ∷ [] };
 
     fn head(&self) -> Option<Head<'_>>
         ensures first { option_map frame_of result ≡ slice_get self.now.queue.waiting 0 }

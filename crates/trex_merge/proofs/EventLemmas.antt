@@ -62,7 +62,7 @@ first_waits (suc at) (queue ∷ queues) frame rest there =
     record { later = later.later; there = later.there; left = ap (λ (l : List (List Frame)). stem queue ∷ l) later.left; sent = later.sent }
 
 -- Where no core has to be waited for, what a core has begins with what waits there, or nothing is left there.
-stems_not_before : (frame : Frame) (queues : List Queue) → AllServed queues → AllByRecursion (BeginsNotBefore key_of frame) (all_waiting queues)
+pub stems_not_before : (frame : Frame) (queues : List Queue) → AllServed queues → AllByRecursion (BeginsNotBefore key_of frame) (all_waiting queues)
     → AllByRecursion (BeginsNotBefore key_of frame) (map stem queues)
 stems_not_before frame [] served least = tt
 stems_not_before frame (queue ∷ queues) served least = (one queue.waiting queue.coming served.0 least.0, stems_not_before frame queues served.1 least.1)

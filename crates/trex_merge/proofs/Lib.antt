@@ -8,3 +8,4 @@ pub mod EventLemmas
 pub mod FrameLemmas
 pub mod FeedLemmas
 pub mod ShareLemmas
+pub mod RunLemmas

@@ -1,12 +1,14 @@
 // The laws of the merge, over all refills and emissions.
 
-ghost use Rattle.std.specs.Prelude.{◌≡◌, ℕ, ◌%◌, ◌<◌, ◌==◌, ◌↔◌, ◌⊎◌, [], List, length, map, slice_get};
+ghost use Rattle.std.specs.Prelude.{◌≡◌, ℕ, ◌-◌, ◌%◌, ◌<◌, ◌≤◌, ◌==◌, ◌↔◌, ◌⊎◌, [], List, Option, length, map, replicate, slice_get};
 ghost use Rattle.std.specs.List.{AllByRecursion, filter};
+ghost use Rattle.trex_merge.specs.declared.key.Key.{Key};
 ghost use Rattle.trex_merge.specs.declared.next.Next.TheVariants.{End, Need, Packet};
 ghost use Rattle.trex_merge.specs.Frames.{Frame, key_of, sequence, share, shares};
 ghost use Rattle.trex_merge.specs.Machine.{Emit, Event, HaveShares, IsEnded, IsMill, IsPrefixOf, MillState, Refill, happens, next_in, run, start};
 ghost use Rattle.trex_merge.specs.Order.{AreDistinct, joined, ordered};
 ghost use Rattle.trex_merge.specs.Queues.{IsLeastAt, IsNeedyFirst, Queue, next_of, stem, waiting_at};
+ghost use Rattle.trex_merge.specs.Runs.{IsLeastElsewhere, OthersNotBefore, passed, run_length};
 
 use crate::key::Keyed;
 
@@ -62,6 +64,20 @@ pub fn what_comes_next()
     ensures end { (more : ℕ) (queues : List Queue)
         → (next_of more queues ≡ End) ↔ ((more ≡ 0) ⊎ AllByRecursion (λ queue. stem queue ≡ []) queues) }
     ensures ended { (state : MillState) → (next_in state ≡ End) ↔ IsEnded state }
+{}
+
+/// A run: the packets at the front of a queue that stand before those of all other cores.
+pub fn runs_are_emissions()
+    // Where a packet comes next, and other first packets don't stand before a key, packets that stand before it are sent by as many emissions.
+    ensures run { (state : MillState) (at many : ℕ) (before : Option Key) → next_in state ≡ Packet at → OthersNotBefore at before state.queues
+        → many ≤ run_length before (state.limit - length state.sent) (waiting_at at state.queues)
+        → run (replicate many Emit) state ≡ passed at many state }
+    ensures mill { (frames : List Frame) (state : MillState) (at many : ℕ) (before : Option Key) → IsMill frames state → next_in state ≡ Packet at
+        → OthersNotBefore at before state.queues → many ≤ run_length before (state.limit - length state.sent) (waiting_at at state.queues)
+        → IsMill frames (passed at many state) }
+    // Where the key is the least of the others, there is such a packet.
+    ensures some { (frames : List Frame) (state : MillState) (at : ℕ) (before : Option Key) → IsMill frames state → next_in state ≡ Packet at
+        → IsLeastElsewhere at before state.queues → 0 < run_length before (state.limit - length state.sent) (waiting_at at state.queues) }
 {}
 
 /// The packets of all cores together are all packets.

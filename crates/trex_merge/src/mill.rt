@@ -1,6 +1,6 @@
 // The merge: `peek` says which feed's first packet comes next, and `take` sends it.
 
-ghost use Rattle.std.specs.Prelude.{◌≡◌, ℕ, ◌+◌, ◌-◌, ◌≢◌, map, slice_get};
+ghost use Rattle.std.specs.Prelude.{◌≡◌, ℕ, ◌+◌, ◌-◌, ◌≤◌, ◌≢◌, map, slice_get};
 ghost use Rattle.trex_merge.specs.declared.next.Next.{Next};
 ghost use Rattle.trex_merge.specs.declared.next.Next.TheVariants.{Packet};
 ghost use Rattle.trex_merge.specs.Queues.{at_place, next_of, popped};
@@ -56,6 +56,22 @@ impl Mill {
             Some(place) => Next::Packet { feed: place.feed },
             None => Next::End,
         }
+    }
+
+    /// How many packets more may be sent.
+    pub fn left(&self) -> u64
+        ensures { result ≡ self.now.limit - self.now.sent }
+    {
+        self.limit.saturating_sub(self.sent)
+    }
+
+    /// Counts packets of a run that were taken from their feed.
+    pub fn pass(&mut self, packets: u64)
+        requires { self.old.sent + packets ≤ self.old.limit }
+        ensures limit { self.new.limit ≡ self.old.limit }
+        ensures sent { self.new.sent ≡ self.old.sent + packets }
+    {
+        self.sent += packets;
     }
 
     /// Sends the packet that comes next: it is taken from its feed, and counted.

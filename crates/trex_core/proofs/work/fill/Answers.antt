@@ -15,15 +15,15 @@ returns-then-not-has_room_for-clause-settled c =
     c.make-length.ensures.packet ∙ ap (λ p. packet_bytes p.profile p.base slot) before.invariant.maker in
     let long : length (packet_bytes plan.profile plan.base slot) ≡ c.make-length.result =
     ap length (sym made) ∙ length-take-le c.make-length.result c.make-length.new.scratch (omega arith) in
-    let full : has_room_for before.batch (length (packet_bytes plan.profile plan.base slot)) ≡ false =
-    ap (has_room_for before.batch) long ∙ sym c.has_room_for.ensures.value ∙ c.if-not-has_room_for.true in
-    sym (full_is frame before.batch before.walks slot before.invariant.within c.in-Some.ensures full) ∙ ap batch_of before.invariant.stem
+    let full : has_room_for before.batch.waiting (length (packet_bytes plan.profile plan.base slot)) ≡ false =
+    ap (has_room_for before.batch.waiting) long ∙ sym c.has_room_for.ensures.value ∙ c.if-not-has_room_for.true in
+    sym (full_is frame before.batch.waiting before.walks slot before.invariant.within c.in-Some.ensures full) ∙ ap batch_of before.invariant.stem
 
 pub returns-clause-settled : goal.returns-clause-settled
 returns-clause-settled c =
     let frame = frame_at c.args.maker.now.profile c.args.maker.now.base in
     let before = c.packets in
-    sym (last_is frame before.batch before.walks before.invariant.within c.in_default.ensures) ∙ ap batch_of before.invariant.stem
+    sym (last_is frame before.batch.waiting before.walks before.invariant.within c.in_default.ensures) ∙ ap batch_of before.invariant.stem
 
 pub returns-clause-calm : goal.returns-clause-calm
 returns-clause-calm c = λ empty. none_is c.packets.walks c.in_default.ensures
