@@ -1,8 +1,8 @@
 -- The last number of the last range is the greatest.
-use Rattle.std.proofs.Common.{◌≡◌, ◌∙◌, ◌≤◌, true, refl, sym, ap, subst, ◌∷◌, [], ◌++◌}
+use Rattle.std.proofs.Common.{◌≡◌, ◌≤◌, true, refl, subst, ◌∷◌, [], ◌++◌}
 use Rattle.std.specs.List.{AllByRecursion}
 use Rattle.trex_stats.proofs.Spans.{last_is_greatest}
-use Rattle.trex_stats.specs.Ranges.{Ascend, has, numbers, with_tail}
+use Rattle.trex_stats.specs.Ranges.{Ascend, has, numbers}
 use Rattle.trex_stats.proofs.ranges.SeqRanges.greatest.Goals as goal
 
 pub returns-in-Some : goal.returns-in-Some

@@ -1,9 +1,9 @@
 -- What the set holds before and after: the last range grew, or has the number, or the number went in apart from it.
-use Rattle.std.proofs.Common.{◌≡◌, ◌+◌, ◌∙◌, ◌∷◌, [], ◌++◌, sym, ap, subst, arith, if◌then◌else◌, true, false, not, length}
+use Rattle.std.proofs.Common.{◌≡◌, ◌+◌, ◌∙◌, ◌∷◌, [], ◌++◌, sym, ap, subst, arith, if◌then◌else◌, true, not, length}
 use Rattle.std.specs.BTreeSet.{insert_key}
 use Rattle.std.specs.Ordering.{nat_cmp}
 use Rattle.trex_stats.proofs.Spans.{grown, gains_there, has_tail, has_no_more, length-insert}
-use Rattle.trex_stats.specs.Ranges.{Ascend, Gains, has, numbers, with_tail}
+use Rattle.trex_stats.specs.Ranges.{Ascend, has, numbers, with_tail}
 use Rattle.trex_stats.proofs.ranges.SeqRanges.insert.Goals as goal
 
 pub invariant_of-self : goal.invariant_of-self
