@@ -1,10 +1,10 @@
 // Sums of known bytes, at once and in pieces, and the checksum that is written as all ones.
 
-use crate::{RunningSum, fold, ones_for_zero, sum_words, verifies};
+use crate::{RunningSum, fold, fold_sum, ones_for_zero, sum_words, verifies};
 
 /// Bytes, their sum and its fold: the numerical example of RFC 1071, section 3, whose sum is 2ddf0 and whose checksum is 220d, and other
 /// lengths beside it, so that each part of a tail is there with and without the others.
-const SUMS: [(&[u8], u64, u16); 9] = [
+const SUMS: [(&[u8], u64, u16); 10] = [
     (&[], 0, 0),
     (&[0xab], 0xab00, 0xab00),
     (
@@ -22,6 +22,7 @@ const SUMS: [(&[u8], u64, u16); 9] = [
     (&[1, 2, 3, 4, 5, 6, 7], 0x100c, 0x100c),
     (&[1, 2, 3, 4, 5, 6, 7, 8, 9, 10, 11], 0x241e, 0x241e),
     (&[1, 2, 3, 4, 5, 6, 7, 8, 9, 10, 11, 12], 0x242a, 0x242a),
+    (&[0xff; 16], 0x7fff8, 0xffff),
 ];
 
 /// The bytes of that example in pieces, of which some begin in the middle of a word.
@@ -39,10 +40,11 @@ const WRITTEN: [(u16, u16); 4] = [(0, 0xffff), (1, 1), (0xa038, 0xa038), (0xffff
 #[test]
 fn sums_words_and_folds_them(rt: HostRuntime) {
     for &(bytes, sum, folded) in &SUMS {
-        assert!(rt; bytes.len() <= 12);
+        assert!(rt; bytes.len() <= 16);
         let found = sum_words(bytes);
         assert_eq!(rt; found, sum, "the sum of {bytes:?}");
         assert_eq!(rt; fold(found), folded, "the fold of {sum}");
+        assert_eq!(rt; fold_sum(0, bytes), folded, "the fold of {sum} at once");
         assert_eq!(rt; verifies(found), folded == 0xffff, "whether {sum} verifies");
     }
 }

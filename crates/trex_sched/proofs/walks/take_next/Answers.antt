@@ -1,7 +1,6 @@
 use Rattle.std.proofs.Common.{◌<◌, ◌∷◌, length, sym, ◌∙◌, subst, arith}
 use Rattle.std.specs.BinaryHeap.{heap_items}
 use Rattle.std.specs.List.Sorted.{IsPermutation}
-use Rattle.trex_sched.specs.Heads.{with_first}
 use Rattle.trex_sched.proofs.Heads.{heads_shuffled, no_head_known, put_back_known}
 use Rattle.trex_sched.proofs.walks.take_next.Goals as goal
 

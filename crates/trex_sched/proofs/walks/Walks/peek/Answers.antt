@@ -2,7 +2,7 @@ use Rattle.std.proofs.Common.{◌≡◌, List, ◌∷◌, sym, ap, ◌∙◌, ar
 use Rattle.std.proofs.lemmas.Option.{slice_get_within, get_or_from_slice_get}
 use Rattle.std.specs.BinaryHeap.{heap_items}
 use Rattle.std.specs.List.{slice_get}
-use Rattle.trex_merge.specs.Order.{joined, ordered}
+use Rattle.trex_merge.specs.Order.{ordered}
 use Rattle.trex_sched.specs.declared.slot.Slot.{Slot}
 use Rattle.trex_sched.specs.Entries.{key_of}
 use Rattle.trex_sched.proofs.Heads.{none_first, some_first}
