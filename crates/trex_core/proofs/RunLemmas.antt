@@ -1,12 +1,14 @@
 -- The packets at the front that stand before a key, counted one by one.
 use Rattle.std.proofs.Common.{◌≡◌, ℕ, zero, suc, add-one, ◌+◌, ◌-◌, ◌<◌, ◌≤◌, Bool, true, false, cond, Option, List, [], ◌∷◌, get_or, length, map, take, drop, refl, sym, ap, ◌∙◌, subst, arith}
 use Rattle.std.proofs.Math.Seq.{drop-cons}
-use Rattle.std.proofs.lemmas.List.{drop_all, get_or-map, length-map}
+use Rattle.std.proofs.lemmas.List.{drop_all, get_or-map, length-map, take-map}
 use Rattle.trex_merge.specs.declared.key.Key.{Key}
 use Rattle.trex_merge.specs.Frames.{Frame, key_of}
 use Rattle.trex_merge.specs.Runs.{run_length, stands_before}
 use Rattle.trex_core.specs.declared.waiting.Waiting.{Waiting}
-use Rattle.trex_core.specs.Records.{waiting_of}
+use Rattle.trex_core.specs.Records.{AreBatch, frames_of, text_length, waiting_of}
+use Rattle.trex_core.specs.Texts.{records_text}
+use Rattle.trex_core.proofs.Records.{first_records_of}
 
 -- some packet, for places where there is none
 no_frame : Frame
@@ -76,3 +78,39 @@ run_length-take before (suc most) [] = refl
 run_length-take before zero (f ∷ frames) = refl
 run_length-take before (suc most) (f ∷ frames) =
     ap (λ n. cond (stands_before (key_of f) before) (suc n) 0) (run_length-take before most frames)
+
+take_within : {X : Type 0} (m : ℕ) (xs : List X) → length (take m xs) ≤ m
+take_within zero xs = omega arith
+take_within (suc m) [] = omega arith
+take_within (suc m) (x ∷ xs) = let rest = take_within m xs in omega arith
+
+take-take_within : {X : Type 0} (n m : ℕ) (xs : List X) → n ≤ m → take n (take m xs) ≡ take n xs
+take-take_within zero m xs short = refl
+take-take_within (suc n) zero xs short = absurd (omega arith)
+take-take_within (suc n) (suc m) [] short = refl
+take-take_within (suc n) (suc m) (x ∷ xs) short = ap (λ ys. x ∷ ys) (take-take_within n m xs (omega arith))
+
+-- the first packets of a batch, so many, with so many bytes of its text, are those that stand before a key
+pub record IsRun (base : ℕ) (ws : List Waiting) (text : List ℕ) (before : Option Key) (most count bytes : ℕ) : Type 0 where
+  pub packets : take count (take most ws) ≡ map waiting_of (take (run_length before most (frames_of ws text)) (frames_of ws text))
+  pub text : take bytes text ≡ records_text base (take (run_length before most (frames_of ws text)) (frames_of ws text))
+  pub within : bytes ≤ length text
+
+pub run_is : (base : ℕ) (ws : List Waiting) (text : List ℕ) (before : Option Key) (most count bytes : ℕ) → AreBatch base ws text
+    → ((frames : List Frame) → take most ws ≡ map waiting_of frames → count ≡ run_length before (length (take most ws)) frames)
+    → count ≤ length (take most ws) → bytes ≡ text_length (take count (take most ws)) → IsRun base ws text before most count bytes
+run_is base ws text before most count bytes batch counted short measured =
+    let fs = frames_of ws text in
+    let n = run_length before most fs in
+    let known : take most ws ≡ map waiting_of (take most fs) = ap (take most) batch.known ∙ take-map waiting_of most fs in
+    let long : length (take most ws) ≡ length (take most fs) = ap length known ∙ length-map (take most fs) waiting_of in
+    let is : count ≡ n = counted (take most fs) known ∙ ap (λ m. run_length before m (take most fs)) long ∙ sym (run_length-take before most fs) in
+    let few : count ≤ most = omega (arith, take_within most ws) in
+    let front : take count (take most ws) ≡ take n ws = take-take_within count most ws few ∙ ap (λ m. take m ws) is in
+    let size : bytes ≡ text_length (take n ws) = measured ∙ ap text_length front in
+    let records = first_records_of base n ws text batch in
+    record {
+      packets = front ∙ ap (take n) batch.known ∙ take-map waiting_of n fs;
+      text = ap (λ m. take m text) size ∙ records.0;
+      within = omega (arith, size, records.1);
+    }

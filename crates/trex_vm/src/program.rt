@@ -1,11 +1,12 @@
 // Programs over a packet's bytes.
 
-ghost use Rattle.std.specs.Prelude.{◌≡◌, ◌≤◌, true, is_some, IfSome, length, map};
+ghost use Rattle.std.specs.Prelude.{◌≡◌, ℕ, ◌≤◌, true, List, Option, is_some, IfSome, length, map};
 ghost use Rattle.trex_vars.specs.Variable.{variable_of};
 ghost use Rattle.trex_vm.specs.Effect.{first_trim};
-ghost use Rattle.trex_vm.specs.Packet.{trimmed};
+ghost use Rattle.trex_stamp.specs.declared.header.Stamp.{Stamp as AStamp};
+ghost use Rattle.trex_vm.specs.Packet.{packet, trimmed, version_of};
 ghost use Rattle.trex_vm.specs.Rules.{accepts};
-ghost use Rattle.trex_vm.specs.Program.{AreOperandsOf, AreSound, AreValuesOf, IsProgram, program_view};
+ghost use Rattle.trex_vm.specs.Program.{AreOperandsOf, AreSound, AreValuesOf, IsProgram, IsTemplateOf, program_view};
 
 use crate::instr::{Instr, Operand};
 use crate::rules::{accepts, least_length};
@@ -96,6 +97,8 @@ impl Program {
         ensures value { result ≡ trimmed values.now self.now.instrs self.now.template }
         ensures within { result ≤ self.now.template }
         ensures sound { IsProgram self.now }
+        ensures packet { (stamp : Option AStamp) (template : List ℕ) → IsTemplateOf self.now template → version_of stamp ≡ self.now.stamp
+            → length (packet self.now.instrs values.now stamp template) ≡ result }
     {
         match self.trim {
             Some(from) => number_in(values, from) as usize,
