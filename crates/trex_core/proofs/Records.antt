@@ -1,6 +1,6 @@
 -- The packets of a batch, and their records.
 use Rattle.std.proofs.Common.{◌≡◌, ℕ, zero, suc, ◌+◌, ◌*◌, ◌-◌, ◌≤◌, ◌<◌, ◌&&◌, nat_lt, nat_le, true, List, [], ◌∷◌, ◌++◌, length, map, take, drop, eqb, refl, sym, ap, ◌∙◌, subst, append_assoc, length-append, length-drop, arith}
-use Rattle.std.specs.List.{flat_map}
+use Rattle.std.specs.List.{AllByRecursion, flat_map}
 use Rattle.std.proofs.lemmas.Bool.Decides.{nat_tests}
 use Rattle.std.proofs.lemmas.Grind.{flat_map-append}
 use Rattle.std.proofs.lemmas.List.{append-nil, drop_at, drop-drop, drop-map, length-map, map-append, take_at, take-append-drop, take-map}
@@ -190,3 +190,9 @@ none_left (w ∷ ws) text = grind (arith, nat_tests)
 pub batch_text : (base : ℕ) (ws : List Waiting) (text : List ℕ) → AreBatch base ws text → text_length ws ≡ length text
 batch_text base ws text batch =
     ap text_length batch.known ∙ text_length-waiting base (frames_of ws text) ∙ ap length (sym batch.records)
+
+-- what holds of all packets holds of those behind the first ones
+pub all_drop : (P : Frame → Type 0) (n : ℕ) (fs : List Frame) → AllByRecursion P fs → AllByRecursion P (drop n fs)
+all_drop P zero fs all = all
+all_drop P (suc n) [] all = tt
+all_drop P (suc n) (f ∷ fs) all = all_drop P n fs all.1
