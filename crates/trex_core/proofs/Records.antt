@@ -1,5 +1,5 @@
 -- The packets of a batch, and their records.
-use Rattle.std.proofs.Common.{◌≡◌, ℕ, zero, suc, ◌+◌, ◌*◌, ◌-◌, ◌≤◌, ◌<◌, ◌&&◌, nat_lt, nat_le, true, List, [], ◌∷◌, ◌++◌, length, map, take, drop, eqb, get_or, slice_get, Some, refl, sym, ap, ◌∙◌, subst, append_assoc, length-append, length-drop, arith}
+use Rattle.std.proofs.Common.{◌≡◌, ℕ, zero, suc, ◌+◌, ◌*◌, ◌-◌, ◌≤◌, ◌<◌, ◌&&◌, nat_lt, nat_le, true, List, [], ◌∷◌, ◌++◌, length, map, take, drop, eqb, get_or, slice_get, Some, refl, sym, ap, ◌∙◌, subst, append_assoc, take_all, length-append, length-drop, arith}
 use Rattle.std.proofs.Math.Seq.{drop-cons}
 use Rattle.std.specs.List.{AllByRecursion, flat_map}
 use Rattle.std.proofs.lemmas.Bool.Decides.{nat_tests}
@@ -228,3 +228,7 @@ first_of (f ∷ fs) key bytes is shows =
     let same : key ≡ key_of f = cc in
     let read : bytes ≡ f.bytes = cc in
     ap (λ (k : Key). Some (frame_with k bytes)) same ∙ ap (λ (bs : List ℕ). Some (frame_with (key_of f) bs)) read
+
+-- what stands behind the first ones of a list that is another
+pub rest_is : {X : Type 0} (xs ys : List X) (n : ℕ) → xs ≡ ys → take (length xs - n) (drop n xs) ≡ drop n ys
+rest_is xs ys n same = take_all (length xs - n) (drop n xs) (omega (arith, length-drop n xs)) ∙ ap (drop n) same

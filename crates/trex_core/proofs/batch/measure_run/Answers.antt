@@ -4,11 +4,8 @@ use Rattle.std.proofs.lemmas.List.Sums.{sum_by_push}
 use Rattle.trex_core.specs.declared.batch.TheConstants.{RECORD_HEADER}
 use Rattle.trex_core.specs.declared.waiting.Waiting.{Waiting}
 use Rattle.trex_core.specs.Records.{text_length, waiting_of}
-use Rattle.trex_core.proofs.RunLemmas.{counted_all, counted_more, counted_none, counted_stops, no_frame}
+use Rattle.trex_core.proofs.RunLemmas.{counted_all, counted_more, counted_stops, no_frame}
 use Rattle.trex_core.proofs.batch.measure_run.Goals as goal
-
-pub loop-packet-established : goal.loop-packet-established
-loop-packet-established c = record { counted = counted_none c.args.before (length c.args.packets.now) c.args.packets.now; count = refl; bytes = refl }
 
 pub loop-packet-preserved : goal.loop-packet-preserved
 loop-packet-preserved c =

@@ -1,5 +1,5 @@
 use Rattle.std.proofs.Common.{◌≡◌, ◌+◌, ◌*◌, ◌^◌, ◌<◌, ◌≤◌, ℕ, List, drop, length, length-drop, ◌∙◌, sym, ap, subst, arith, true, [], ◌∷◌, ◌++◌, rules}
-use Rattle.trex_pcap.specs.Writing.{record_of}
+use Rattle.trex_pcap.specs.Writing.{Packet, record_of}
 use Rattle.trex_merge.specs.declared.key.Key.{Key}
 use Rattle.trex_merge.specs.Frames.{Frame}
 use Rattle.trex_core.specs.declared.batch.TheConstants.{BATCH_PACKETS, BATCH_BYTES, RECORD_HEADER}
@@ -41,7 +41,9 @@ invariant_of-self c =
     let p : c.push.new.self.items ≡ ws ++ waiting_of f ∷ [] =
     p0 ∙ ap (λ n. ws ++ (let w : Waiting = record { key = c.args.key; length = n } in w) ∷ []) (sym long) in
     let q : c.add_record.new.text.items ≡ ts ++ record_of (packet_at i.base f) =
-    c.add_record.ensures.items ∙ ap (λ (t : List ℕ). t ++ record_of (packet_at i.base f)) c.remove_front-2.ensures.items in
+    c.add_record.ensures.items
+    ∙ ap (λ n. c.remove_front-2.new.items.items ++ record_of (let p : Packet = record { time = n * 10 ^ 9 + c.args.key.time; bytes = made } in p)) c.from.ensures
+    ∙ ap (λ (t : List ℕ). t ++ record_of (packet_at i.base f)) c.remove_front-2.ensures.items in
     let kept = subst (λ (v : List Waiting). AreBatch i.base v c.add_record.new.text.items) (sym p)
     (subst (λ (t : List ℕ). AreBatch i.base (ws ++ waiting_of f ∷ []) t) (sym q) more.0) in
     (kept, omega arith, omega arith, omega arith, omega (arith, c.add_record.ensures.capacity, c.remove_front-2.ensures.capacity, c.self.invariant.4), omega arith)
@@ -60,7 +62,9 @@ returns c =
     let p : c.push.new.self.items ≡ ws ++ waiting_of f ∷ [] =
     p0 ∙ ap (λ n. ws ++ (let w : Waiting = record { key = c.args.key; length = n } in w) ∷ []) (sym long) in
     let q : c.add_record.new.text.items ≡ ts ++ record_of (packet_at i.base f) =
-    c.add_record.ensures.items ∙ ap (λ (t : List ℕ). t ++ record_of (packet_at i.base f)) c.remove_front-2.ensures.items in
+    c.add_record.ensures.items
+    ∙ ap (λ n. c.remove_front-2.new.items.items ++ record_of (let p : Packet = record { time = n * 10 ^ 9 + c.args.key.time; bytes = made } in p)) c.from.ensures
+    ∙ ap (λ (t : List ℕ). t ++ record_of (packet_at i.base f)) c.remove_front-2.ensures.items in
     let all : frames_of c.push.new.self.items c.add_record.new.text.items ≡ frames_of ws ts ++ f ∷ [] =
     ap (λ (v : List Waiting). frames_of v c.add_record.new.text.items) p ∙ ap (frames_of (ws ++ waiting_of f ∷ [])) q ∙ more.1 in
     ap (λ (fs : List Frame). let v : BatchView = record { base = i.base; waiting = fs } in v) all
