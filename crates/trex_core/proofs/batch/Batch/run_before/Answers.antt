@@ -1,4 +1,5 @@
-use Rattle.std.proofs.Common.{◌≡◌, ◌+◌, ◌≤◌, ◌<◌, ◌^◌, List, drop, take, map, length, length-drop, sym, ap, ◌∙◌, arith}
+use Rattle.std.proofs.Common.{◌≡◌, ◌+◌, ◌-◌, ◌≤◌, ◌<◌, ◌^◌, List, drop, take, map, length, length-drop, sym, ap, ◌∙◌, arith}
+use Rattle.std.proofs.lemmas.List.{length-take-le}
 use Rattle.trex_merge.specs.Runs.{run_length}
 use Rattle.trex_core.specs.declared.waiting.Waiting.{Waiting}
 use Rattle.trex_core.specs.Records.{BatchView, text_length, waiting_of}
@@ -32,7 +33,9 @@ slice_bounds-result-end-2 c =
     (λ frames known. c.measure_run-count.ensures.packets frames (front ∙ known) ∙ ap (λ (v : List Waiting). run_length c.args.before (length v) frames) front)
     (omega (arith, c.measure_run-count.ensures.within, ap length front))
     (c.measure_run-count.ensures.bytes ∙ ap (λ (v : List Waiting). text_length (take count v)) front) in
-    omega (arith, found.within, length-drop i.from i.text.items, ap length (rest_is c.deref-2.result.now i.text.items i.from c.deref-2.ensures.value), ap length c.deref-2.ensures.value)
+    let rest = take (length c.deref-2.result.now - i.from) (drop i.from c.deref-2.result.now) in
+    let same : rest ≡ ts = rest_is c.deref-2.result.now i.text.items i.from c.deref-2.ensures.value in
+    sym (length-take-le bytes rest (omega (arith, found.within, ap length same)))
 
 pub returns-clause-packets : goal.returns-clause-packets
 returns-clause-packets c =
