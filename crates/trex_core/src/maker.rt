@@ -1,6 +1,6 @@
 // The making of a core's packets.
 
-ghost use Rattle.std.specs.Prelude.{◌≡◌, ◌<◌, ◌≤◌, ◌^◌, if◌then◌else◌, IfOk, IsSomeAnd, length, map, slice_get};
+ghost use Rattle.std.specs.Prelude.{◌≡◌, ◌<◌, ◌≤◌, ◌^◌, true, false, IfOk, IsSomeAnd, length, map, slice_get};
 ghost use Rattle.std.specs.Option.{ForSome, option_map};
 ghost use Rattle.trex_core.specs.Batches.{IsWithin, has_room_for};
 ghost use Rattle.trex_core.specs.Plan.{IsSlotOf, frame_at, packet_bytes};
@@ -67,7 +67,8 @@ impl<'p> Maker<'p> {
         requires slot { IsSlotOf self.old.profile slot.now }
         ensures room { result ≡ has_room_for batch.old.waiting (length (packet_bytes self.old.profile self.old.base slot.now)) }
         ensures within { IsWithin batch.old.waiting }
-        ensures batch { batch.new ≡ (if result then with_frame (frame_at self.old.profile self.old.base slot.now) batch.old else batch.old) }
+        ensures added { result ≡ true → batch.new ≡ with_frame (frame_at self.old.profile self.old.base slot.now) batch.old }
+        ensures kept { result ≡ false → batch.new ≡ batch.old }
         ensures short { length (packet_bytes self.old.profile self.old.base slot.now) ≤ LONGEST_PACKET }
         ensures plan { self.new ≡ self.old }
     {
@@ -106,7 +107,8 @@ fn put_packet(
     requires registers { map values_by registers.old ≡ map values_of plan.now.profile }
     ensures room { result ≡ has_room_for batch.old.waiting (length (packet_bytes plan.now.profile plan.now.base slot.now)) }
     ensures within { IsWithin batch.old.waiting }
-    ensures batch { batch.new ≡ (if result then with_frame (frame_at plan.now.profile plan.now.base slot.now) batch.old else batch.old) }
+    ensures added { result ≡ true → batch.new ≡ with_frame (frame_at plan.now.profile plan.now.base slot.now) batch.old }
+    ensures kept { result ≡ false → batch.new ≡ batch.old }
     ensures short { length (packet_bytes plan.now.profile plan.now.base slot.now) ≤ LONGEST_PACKET }
     ensures registers { map values_by registers.new ≡ map values_by registers.old }
 {
@@ -122,7 +124,8 @@ fn put_values(plan: &Plan<'_>, slot: &Slot, values: &[VarValue], batch: &mut Bat
         (λ stream. values.now ≡ values_of stream slot.now.number slot.now.in_run) }
     ensures room { result ≡ has_room_for batch.old.waiting (length (packet_bytes plan.now.profile plan.now.base slot.now)) }
     ensures within { IsWithin batch.old.waiting }
-    ensures batch { batch.new ≡ (if result then with_frame (frame_at plan.now.profile plan.now.base slot.now) batch.old else batch.old) }
+    ensures added { result ≡ true → batch.new ≡ with_frame (frame_at plan.now.profile plan.now.base slot.now) batch.old }
+    ensures kept { result ≡ false → batch.new ≡ batch.old }
     ensures short { length (packet_bytes plan.now.profile plan.now.base slot.now) ≤ LONGEST_PACKET }
 {
     let spec = plan.stream(slot.stream as usize);

@@ -14,7 +14,6 @@ invariant_of-self c = (
   subst IsWithin (sym c.fill.ensures.settled) (batch_within _),
   c.fill.ensures.made,
   c.fill.ensures.base ∙ c.self.invariant.3 ∙ sym (ap (λ (m : PlanOf). m.base) c.fill.ensures.maker),
-  c.self.invariant.4,
 )
 
 pub returns-clause-turned : goal.returns-clause-turned
