@@ -1,3 +1,4 @@
+mod Aheads
 mod Answered
 mod Fronts
 pub mod ReadingLemmas
