@@ -54,15 +54,18 @@ pub fn read_into<S: Source, K: Keep>(
                 records = record.number;
             }
             Ahead::Faulty(fault) => return Err(measure_fault(fault)),
-            Ahead::Short => match window.refill(input) {
-                Ok(0) if window.bytes().is_empty() => return Ok(keep),
-                Ok(0) => {
+            Ahead::Short => {
+                let Ok(count) = window.refill(input) else {
+                    return Err(MeasureFault::Read);
+                };
+                if count == 0 {
+                    if window.is_empty() {
+                        return Ok(keep);
+                    }
                     let number = records + 1;
                     return Err(MeasureFault::Bad(CaptureFault::Torn { number }));
                 }
-                Ok(_) => {}
-                Err(_) => return Err(MeasureFault::Read),
-            },
+            }
         }
     }
 }

@@ -1,6 +1,6 @@
 // The bytes that a source gave and that aren't taken yet, in a buffer that is read into behind them.
 
-ghost use Rattle.std.specs.Prelude.{◌≡◌, ℕ, ◌+◌, ◌-◌, ◌<◌, ◌≤◌, [], length, take, drop, IfOk};
+ghost use Rattle.std.specs.Prelude.{◌≡◌, ℕ, ◌+◌, ◌-◌, ◌<◌, ◌≤◌, ◌==◌, [], length, take, drop, IfOk};
 ghost use Rattle.trex_io.specs.Faults.{HasCause};
 ghost use Rattle.trex_measure.specs.Refills.{Refills};
 
@@ -53,6 +53,13 @@ impl Window {
         &self.buffer[self.from..self.to]
     }
 
+    /// Whether there are none.
+    pub(crate) fn is_empty(&self) -> bool
+        ensures { result ≡ (length self.now == 0) }
+    {
+        self.bytes().is_empty()
+    }
+
     /// Takes so many bytes away at the front.
     pub(crate) fn skip(&mut self, count: usize)
         requires { count ≤ length self.old }
@@ -94,5 +101,6 @@ fn read_behind<S: Source>(source: &mut S, buffer: &mut [u8], at: usize) -> Resul
     ensures bound { IfOk result (λ n. n ≤ 65536) }
     ensures cause { HasCause S.faults source.old source.new result }
 {
-    source.read(&mut buffer[at..at + READ_SIZE])
+    let count = source.read(&mut buffer[at..at + READ_SIZE])?;
+    Ok(count)
 }
