@@ -237,3 +237,44 @@ fn whichever_call_of_the_source_fails_is_the_fault(rt: HostRuntime) -> Result<()
     assert_eq!(rt; read(rt.alloc(), &TWO, 8, &[13])?.fault, NONE);
     Ok(())
 }
+
+/// Two records that follow a file header, cut short, and how many records came before.
+const AHEAD: [(usize, u64, Ahead); 7] = [
+    (0, 0, Ahead::Short),
+    (15, 0, Ahead::Short),
+    (31, 0, Ahead::Short),
+    (0, 100_000_000, Ahead::Short),
+    (1, 100_000_000, Ahead::Faulty(CaptureFault::TooMany)),
+    (15, 99_999_999, Ahead::Short),
+    (64, 100_000_000, Ahead::Faulty(CaptureFault::TooMany)),
+];
+
+#[test]
+fn bytes_tell_of_their_front_what_they_can(rt: HostRuntime) -> Result<(), Fail> {
+    let format = Format {
+        big: false,
+        micro: false,
+    };
+    for &(length, before, ahead) in &AHEAD {
+        assert_eq!(rt;
+            look_ahead(format, before, &TWO[24..24 + length]),
+            ahead,
+            "{length}"
+        );
+    }
+    for length in 32..64 {
+        let first = Record {
+            number: 1,
+            time: 0,
+            captured: 16,
+            original: 16,
+        };
+        assert_eq!(rt;
+            look_ahead(format, 0, &TWO[24..24 + length]),
+            Ahead::Whole(first)
+        );
+    }
+    let faulty = Ahead::Faulty(CaptureFault::BadLength { number: 3 });
+    assert_eq!(rt; look_ahead(format, 2, &[1; 16]), faulty);
+    Ok(())
+}
