@@ -64,9 +64,9 @@ fn a_capture_is_measured_however_it_comes(rt: HostRuntime) -> Result<(), Fail> {
             );
         }
     }
-    for failing in 1..6 {
+    for failing in 1..7 {
         assert_eq!(rt;
-            measured(rt.alloc(), 59, 1000, failing)?.err(),
+            measured(rt.alloc(), 59, 17, failing)?.err(),
             Some(MeasureFault::Read)
         );
     }
@@ -75,22 +75,20 @@ fn a_capture_is_measured_however_it_comes(rt: HostRuntime) -> Result<(), Fail> {
 
 #[test]
 fn the_longest_record_is_measured(rt: HostRuntime) -> Result<(), Fail> {
-    for &per_call in &[1_000, 65_536] {
-        let mut bytes = Vec::from_slice(rt.alloc(), &header())?;
-        bytes.extend_from_slice(&record_header(7, 262_144))?;
-        bytes.resize(24 + 16 + 262_144, 0xff)?;
-        bytes.extend_from_slice(&record_header(9, 1))?;
-        bytes.push(0xff)?;
-        let mut input = MemSource::new(bytes, per_call, Vec::new(rt.alloc()));
-        let Ok(stats) = measure(rt.alloc(), &mut input) else {
-            return Err("no counts".into());
-        };
-        let totals = Totals {
-            records: 2,
-            bytes: 262_145,
-            stamped: 0,
-        };
-        assert_eq!(rt; stats.totals(), totals);
-    }
+    let mut bytes = Vec::from_slice(rt.alloc(), &header())?;
+    bytes.extend_from_slice(&record_header(7, 262_144))?;
+    bytes.resize(24 + 16 + 262_144, 0xff)?;
+    bytes.extend_from_slice(&record_header(9, 1))?;
+    bytes.push(0xff)?;
+    let mut input = MemSource::new(bytes, 65_536, Vec::new(rt.alloc()));
+    let Ok(stats) = measure(rt.alloc(), &mut input) else {
+        return Err("no counts".into());
+    };
+    let totals = Totals {
+        records: 2,
+        bytes: 262_145,
+        stamped: 0,
+    };
+    assert_eq!(rt; stats.totals(), totals);
     Ok(())
 }
