@@ -1,7 +1,6 @@
-use Rattle.std.proofs.Common.{◌≡◌, ◌≤◌, ◌∙◌, IfSome, List, Option, length, option_map, slice_get, take, sym, ap, subst, arith, true, false, ℕ}
+use Rattle.std.proofs.Common.{◌≡◌, ◌∙◌, IfSome, List, Option, length, slice_get, take, sym, ap, subst, ℕ}
 use Rattle.std.proofs.lemmas.List.{length-take-le}
 use Rattle.trex_core.specs.Batches.{has_room_for}
-use Rattle.trex_core.specs.Plan.{frame_at, packet_bytes}
 use Rattle.trex_core.specs.Records.{frame_with, with_frame}
 use Rattle.trex_core.proofs.Making.{at_stream, made_of, some_is}
 use Rattle.trex_merge.specs.declared.key.Key.{Key}

@@ -1,11 +1,9 @@
-use Rattle.std.proofs.Common.{◌≡◌, ◌+◌, ◌*◌, ◌^◌, ◌<◌, ◌≤◌, ℕ, List, drop, length, length-drop, ◌∙◌, sym, ap, subst, arith, true, [], ◌∷◌, ◌++◌, rules}
+use Rattle.std.proofs.Common.{◌≡◌, ◌+◌, ◌*◌, ◌^◌, ◌<◌, ◌≤◌, ℕ, List, drop, length, length-drop, ◌∙◌, ap, arith, true, [], ◌∷◌, ◌++◌, rules}
 use Rattle.trex_pcap.specs.Writing.{Packet, record_of}
-use Rattle.trex_merge.specs.declared.key.Key.{Key}
-use Rattle.trex_merge.specs.Frames.{Frame}
 use Rattle.trex_core.specs.declared.batch.TheConstants.{BATCH_PACKETS, BATCH_BYTES, RECORD_HEADER}
 use Rattle.trex_core.specs.declared.waiting.Waiting.{Waiting}
-use Rattle.trex_core.specs.Batches.{bytes_of, has_room_for}
-use Rattle.trex_core.specs.Records.{AreBatch, BatchView, frame_with, frames_of, waiting_of}
+use Rattle.trex_core.specs.Batches.{has_room_for}
+use Rattle.trex_core.specs.Records.{AreBatch, BatchView, frame_with, frames_of}
 use Rattle.trex_core.specs.Texts.{packet_at}
 use Rattle.trex_vm.specs.Packet.{after_all, stamped}
 use Rattle.trex_core.proofs.Records.{batch_long, batch_pushed, room}

@@ -1,7 +1,6 @@
-use Rattle.std.proofs.Common.{◌≡◌, ◌+◌, ◌-◌, ◌≤◌, ◌<◌, ◌^◌, List, drop, take, map, length, length-drop, sym, ap, ◌∙◌, arith}
+use Rattle.std.proofs.Common.{◌≡◌, ◌-◌, drop, take, map, length, sym, ap, ◌∙◌, arith}
 use Rattle.std.proofs.lemmas.List.{length-take-le}
 use Rattle.trex_merge.specs.Runs.{run_length}
-use Rattle.trex_core.specs.declared.waiting.Waiting.{Waiting}
 use Rattle.trex_core.specs.Records.{BatchView, text_length, waiting_of}
 use Rattle.trex_core.specs.Texts.{records_text}
 use Rattle.trex_core.proofs.Records.{batch_long, first_records_of, rest_is}
