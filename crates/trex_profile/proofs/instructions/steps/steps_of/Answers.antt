@@ -6,7 +6,7 @@ use Rattle.trex_profile.specs.Given.{given_of}
 use Rattle.trex_profile.specs.InstrRules.{unknown_rule}
 use Rattle.trex_profile.specs.Instruction.{instruction}
 use Rattle.trex_profile.specs.Refusal.{rule_there}
-use Rattle.trex_profile.specs.Steps.{resolved, step}
+use Rattle.trex_profile.specs.Steps.{step}
 use Rattle.trex_profile.proofs.Lists.{map-more}
 use Rattle.trex_profile.proofs.OrderLemmas.{first_each-next}
 use Rattle.trex_profile.proofs.instructions.steps.steps_of.Goals as goal
