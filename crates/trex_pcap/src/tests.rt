@@ -237,3 +237,37 @@ fn whichever_call_of_the_source_fails_is_the_fault(rt: HostRuntime) -> Result<()
     assert_eq!(rt; read(rt.alloc(), &TWO, 8, &[13])?.fault, NONE);
     Ok(())
 }
+
+/// How many of the bytes behind a file header are there, how many records came before, and what the bytes tell.
+const AHEAD: [(usize, u64, Ahead); 8] = [
+    (0, 0, Ahead::Short),
+    (15, 0, Ahead::Short),
+    (31, 0, Ahead::Short),
+    (32, 0, Ahead::Whole(FIRST)),
+    (64, 0, Ahead::Whole(FIRST)),
+    (0, 100_000_000, Ahead::Short),
+    (1, 100_000_000, Ahead::Faulty(CaptureFault::TooMany)),
+    (15, 99_999_999, Ahead::Short),
+];
+
+/// The first record of `TWO`.
+const FIRST: Record = Record {
+    number: 1,
+    time: 0,
+    captured: 16,
+    original: 16,
+};
+
+#[test]
+fn bytes_tell_of_their_front_what_they_can(rt: HostRuntime) -> Result<(), Fail> {
+    let format = Format {
+        big: false,
+        micro: false,
+    };
+    for &(length, before, ahead) in &AHEAD {
+        let bytes = &TWO[24..24 + length.min(64)];
+        let before = before.min(100_000_000);
+        assert_eq!(rt; look_ahead(format, before, bytes), ahead, "{length}");
+    }
+    Ok(())
+}
