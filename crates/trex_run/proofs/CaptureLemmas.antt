@@ -13,7 +13,8 @@ use Rattle.std.proofs.lemmas.List.Sums.{sum_by_push}
 use Rattle.trex_merge.specs.Frames.{Frame}
 use Rattle.trex_sum.specs.Checksum.{fold_of, sum_of}
 use Rattle.trex_run.specs.declared.counts.Counts.{Counts}
-use Rattle.trex_run.specs.Capture.{capture_text, packet_at}
+use Rattle.trex_core.specs.Texts.{packet_at, records_text}
+use Rattle.trex_run.specs.Capture.{capture_text}
 use Rattle.trex_run.specs.Counts.{counts_of}
 
 module _ {K : Type 0} (held : K → Option (List ℕ)) (a b c : K) (piece text : List ℕ) where
@@ -25,10 +26,23 @@ module _ {K : Type 0} (held : K → Option (List ℕ)) (a b c : K) (piece text :
     ap (λ l. l ++ record_text) is ∙ append_assoc front piece record_text ∙ ap (λ l. front ++ l) is' ∙ sym (append_assoc front front' piece'),
   )
 
+  -- the piece and what is to come behind it are written in part
+  pub WrittenAndPending-behind : (behind rest : List ℕ) → WrittenAndPending held a b piece text → WrotePart held b c (piece ++ behind) → WrotePart held a c ((text ++ behind) ++ rest)
+  WrittenAndPending-behind behind rest (front, first, is) part =
+      WrotePart-longer held a c (text ++ behind) rest
+      (subst (WrotePart held a c) (sym (append_assoc front piece behind) ∙ ap (λ l. l ++ behind) (sym is)) (WrotePart-after held a b c front (piece ++ behind) first part))
+
   -- the piece is written in part
   pub WrittenAndPending-part : (rest : List ℕ) → WrittenAndPending held a b piece text → WrotePart held b c piece → WrotePart held a c (text ++ rest)
   WrittenAndPending-part rest (front, first, is) part =
       WrotePart-longer held a c text rest (subst (WrotePart held a c) (sym is) (WrotePart-after held a b c front piece first part))
+
+-- some packets more are their records more
+pub capture_text-append : (base : ℕ) (xs ys : List Frame) → capture_text base (xs ++ ys) ≡ capture_text base xs ++ records_text base ys
+capture_text-append base xs ys =
+    ap capture_of (map-append (packet_at base) xs ys)
+    ∙ ap (λ l. file_header ++ l) (flat_map-append record_of (map (packet_at base) xs) (map (packet_at base) ys))
+    ∙ sym (append_assoc file_header (flat_map record_of (map (packet_at base) xs)) (flat_map record_of (map (packet_at base) ys)))
 
 -- one packet more is one record more
 pub capture_of-more : {X : Type 0} (f : X → Packet) (slots : List X) (slot : X) → capture_of (map f (slots ++ slot ∷ [])) ≡ capture_of (map f slots) ++ record_of (f slot)

@@ -1,5 +1,5 @@
 -- Tallies, one packet after another.
-use Rattle.std.proofs.Common.{◌≡◌, ◌≢◌, ℕ, zero, suc, ◌+◌, ◌*◌, ◌==◌, ◌<◌, ◌≤◌, true, false, List, [], ◌∷◌, ◌++◌, length, sum_by, take, drop, IsSomeAnd, slice_get, slice_set, Option, Some, None, refl, sym, ap, ◌∙◌, arith, eq-eqb, ne_eqb, append-nil, length-append, length-take}
+use Rattle.std.proofs.Common.{◌≡◌, ◌≢◌, ℕ, zero, suc, ◌+◌, ◌*◌, ◌==◌, ◌<◌, ◌≤◌, true, false, List, [], ◌∷◌, ◌++◌, length, sum_by, take, drop, IsSomeAnd, slice_get, slice_set, Option, Some, None, refl, sym, ap, ◌∙◌, subst, arith, eq-eqb, ne_eqb, append-nil, length-append, length-take}
 use Rattle.std.specs.List.{AllByRecursion}
 use Rattle.std.specs.Option.{option_map_or}
 use Rattle.std.proofs.lemmas.List.Elements.{filter-append}
@@ -132,6 +132,16 @@ AtMostPackets-front p frames limit k short few =
     let list = take k (take limit frames) in
     let long : length list ≤ limit = omega (arith, length-take k (take limit frames), length-take limit frames) in
     AtMostPackets-more (length list) 100000000 (tallies p list) (omega (arith, long)) (AtMostPackets-all p list (all_take IsShort k (take limit frames) (all_take IsShort limit frames short)))
+
+-- with a packet more
+pub AtMostPackets-counted : (k : ℕ) (ts : List Tally) (position bytes : ℕ) → bytes ≤ 9216 → AtMostPackets k ts → AtMostPackets (k + 1) (counted ts position bytes)
+AtMostPackets-counted k [] position bytes small are = tt
+AtMostPackets-counted k (t ∷ ts) zero bytes small are =
+    let packets = are.0.0 in let long = are.0.1 in
+    ((omega arith, omega arith), AtMostPackets-more k (k + 1) ts (omega arith) are.1)
+AtMostPackets-counted k (t ∷ ts) (suc j) bytes small are =
+    let packets = are.0.0 in let long = are.0.1 in
+    subst (AtMostPackets (k + 1)) (sym (counted-cons t ts j bytes)) ((omega arith, omega arith), AtMostPackets-counted k ts j bytes small are.1)
 
 -- the id alone
 pub id-of : (spec : StreamSpec) (j : ℕ) (p : List Stream) → IsSomeAnd (slice_get p j) (λ s. IsSpecOf s spec) → IsSomeAnd (slice_get p j) (λ s. spec.id ≡ s.id)

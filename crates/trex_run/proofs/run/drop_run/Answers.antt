@@ -1,0 +1,30 @@
+use Rattle.std.proofs.Common.{◌≡◌, ◌≤◌, ◌∷◌, [], ℕ, List, length, take, ap, sym, ◌∙◌, subst}
+use Rattle.std.proofs.Math.Seq.{map-set_same}
+use Rattle.trex_core.specs.Texts.{records_text}
+use Rattle.trex_core.specs.Works.{Work}
+use Rattle.trex_merge.specs.Frames.{Frame}
+use Rattle.trex_merge.specs.Queues.{Queue}
+use Rattle.trex_merge.specs.Runs.{dropped}
+use Rattle.trex_merge.proofs.FeedLemmas.{map-at_place}
+use Rattle.trex_run.proofs.PassLemmas.{base_there, waiting_there}
+use Rattle.trex_run.proofs.run.drop_run.Goals as goal
+
+pub drop_run-requires-clause-packets : goal.drop_run-requires-clause-packets
+drop_run-requires-clause-packets c = λ lifetimes.
+    let there = waiting_there c.args.works.now c.args.feed c.index-works-feed.result c.requires.within c.index-works-feed.is in
+    subst (λ (l : List Frame). c.args.packets ≤ length l) there c.requires.packets
+
+pub drop_run-requires-clause-bytes : goal.drop_run-requires-clause-bytes
+drop_run-requires-clause-bytes c = λ lifetimes.
+    let there = waiting_there c.args.works.now c.args.feed c.index-works-feed.result c.requires.within c.index-works-feed.is in
+    let base = base_there c.args.works.now c.args.feed c.index-works-feed.result c.requires.within c.index-works-feed.is in
+    c.requires.bytes ∙ ap (λ n. length (records_text n (take c.args.packets _))) base
+    ∙ ap (λ (l : List Frame). length (records_text c.index-works-feed.result.base (take c.args.packets l))) there
+
+pub returns-clause-queues : goal.returns-clause-queues
+returns-clause-queues c = map-at_place (λ (w : Work). w.queue) (dropped c.args.packets) c.args.works.now c.args.feed c.index-works-feed.result c.drop_run.new.self
+    (ap (λ (w : Work). w.queue) c.drop_run.ensures)
+
+pub returns-clause-marks : goal.returns-clause-marks
+returns-clause-marks c = map-set_same (λ (w : Work). w.core ∷ w.turns ∷ w.base ∷ []) c.args.works.now c.args.feed c.drop_run.new.self c.index-works-feed.result
+    (ap (λ (w : Work). w.core ∷ w.turns ∷ w.base ∷ []) c.drop_run.ensures)
