@@ -1,4 +1,5 @@
 mod Records
+mod RunLemmas
 mod Slots
 mod Filling
 mod Registering

@@ -1,5 +1,5 @@
 -- A packet, made from what its stream's packets are made of.
-use Rattle.std.proofs.Common.{◌≡◌, ℕ, zero, suc, ◌+◌, ◌*◌, ◌<◌, ◌^◌, Option, None, Some, List, [], ◌∷◌, ◌++◌, get_or, length, map, take, slice_get, refl, sym, ap, ◌∙◌, subst, arith}
+use Rattle.std.proofs.Common.{◌≡◌, ℕ, zero, suc, ◌+◌, ◌*◌, ◌<◌, ◌≤◌, ◌^◌, Option, None, Some, List, [], ◌∷◌, ◌++◌, get_or, length, map, take, slice_get, refl, sym, ap, ◌∙◌, subst, arith}
 use Rattle.std.specs.Option.{IsSomeAnd, option_map, option_map_or}
 use Rattle.std.proofs.lemmas.List.{length-map, map_push, take_more}
 use Rattle.std.proofs.lemmas.Option.{slice_get-get_or, slice_get_within}
@@ -14,8 +14,9 @@ use Rattle.trex_sched.specs.declared.slot.Slot.{Slot}
 use Rattle.trex_stamp.specs.declared.header.Stamp.{Stamp}
 use Rattle.trex_vars.specs.declared.value.VarValue.{VarValue}
 use Rattle.trex_vm.specs.declared.instr.Instr.{Instr}
-use Rattle.trex_vm.specs.Packet.{packet, version_of}
-use Rattle.trex_vm.specs.Program.{ProgramView}
+use Rattle.trex_vm.specs.Packet.{after_all, packet, stamped, trimmed, version_of}
+use Rattle.trex_vm.specs.Program.{AreValuesOf, IsFrontOf, IsProgram, IsTemplateOf, ProgramView}
+use Rattle.trex_core.specs.declared.maker.TheConstants.{LONGEST_PACKET}
 
 -- what is said of a value that there is
 pub some_is : {A : Type 0} (o : Option A) (P : A → Type 0) → IsSomeAnd o P → (x : A) × (o ≡ Some x) × P x
@@ -47,6 +48,42 @@ pub version-stamp_with : (flow : Option Flow) (number time : ℕ)
     → version_of (option_map (λ flow. stamp_with flow number time) flow) ≡ option_map (λ flow. flow.version) flow
 version-stamp_with None number time = refl
 version-stamp_with (Some flow) number time = refl
+
+-- What is known where a packet is made: its program is meant for its template and its values, and what the program makes of the front of the
+-- template is the packet of its stream, as long as the front.
+pub record Made (p : List Stream) (base : ℕ) (slot : Slot) (spec : StreamSpec) (values : List VarValue) (stamp : Option Stamp) (n : ℕ) : Type 0 where
+  pub valued : AreValuesOf spec.program values
+  pub stamps : version_of stamp ≡ spec.program.stamp
+  pub front : IsFrontOf spec.program values (take n spec.template.items)
+  pub within : n ≤ length spec.template.items
+  pub is : after_all values spec.program.instrs (stamped stamp (take n spec.template.items)) ≡ packet_bytes p base slot
+  pub long : length (packet_bytes p base slot) ≡ n
+  pub short : length (packet_bytes p base slot) ≤ LONGEST_PACKET
+
+pub made_is : (p : List Stream) (base : ℕ) (slot : Slot) (s : Stream) (spec : StreamSpec) (values : List VarValue) (stamp : Option Stamp) (n time : ℕ)
+    → slice_get p slot.stream ≡ Some s → IsSpecOf s spec → values ≡ values_of s slot.number slot.in_run → time ≡ base * 10 ^ 9 + slot.time
+    → stamp ≡ option_map (λ flow. stamp_with flow slot.number time) spec.flow → n ≡ trimmed values spec.program.instrs spec.program.template
+    → n ≤ spec.program.template → IsProgram spec.program
+    → ((h : Option Stamp) (template : List ℕ) → IsTemplateOf spec.program template → version_of h ≡ spec.program.stamp → length (packet spec.program.instrs values h template) ≡ n)
+    → Made p base slot spec values stamp n
+made_is p base slot s spec values stamp n time there is read due header len within program lengths =
+    let template = spec.template.items in
+    let meant : IsTemplateOf spec.program template = subst (IsTemplateOf spec.program) (sym is.template) is.fits in
+    let stamps : version_of stamp ≡ spec.program.stamp =
+    ap version_of header ∙ version-stamp_with spec.flow slot.number time ∙ ap (option_map (λ (flow : Flow). flow.version)) is.flow
+    ∙ sym (ap (λ (view : ProgramView). view.stamp) is.plan) in
+    let cut : n ≡ trimmed values spec.program.instrs (length template) = len ∙ ap (trimmed values spec.program.instrs) (sym meant.long) in
+    let whole : packet spec.program.instrs values stamp template ≡ packet_bytes p base slot = packet_is p base slot s spec values stamp template time there is read due header refl in
+    let long : length (packet_bytes p base slot) ≡ n = ap length (sym whole) ∙ lengths stamp template meant stamps in
+    record {
+      valued = subst (AreValuesOf spec.program) (sym read) (is.values slot.number slot.in_run);
+      stamps = stamps;
+      front = record { template = template; meant = meant; is = ap (λ (m : ℕ). take m template) cut };
+      within = omega (arith, within, meant.long);
+      is = ap (λ (m : ℕ). after_all values spec.program.instrs (stamped stamp (take m template))) cut ∙ whole;
+      long = long;
+      short = omega (arith, long, within, program.short);
+    }
 
 -- there are as many rows as streams, where each shows the same of both
 pub rows_long : {X Y : Type 0} (f : X → Y) (g : Stream → Y) (rows : List X) (p : List Stream) → map f rows ≡ map g p → length rows ≡ length p

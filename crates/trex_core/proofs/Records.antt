@@ -1,98 +1,198 @@
--- The packets of some records.
-use Rattle.std.proofs.Common.{◌≡◌, ℕ, suc, add-one, subst, get_or, ◌+◌, ◌≤◌, List, [], ◌∷◌, ◌++◌, length, take, drop, refl, sym, ap, ◌∙◌, arith, eqb, length-drop, take_all, true, ◌<◌, ◌&&◌, nat_lt, nat_le}
+-- The packets of a batch, and their records.
+use Rattle.std.proofs.Common.{◌≡◌, ℕ, zero, suc, ◌+◌, ◌*◌, ◌-◌, ◌≤◌, ◌<◌, ◌&&◌, nat_lt, nat_le, true, List, [], ◌∷◌, ◌++◌, length, map, take, drop, eqb, refl, sym, ap, ◌∙◌, subst, append_assoc, length-append, length-drop, arith}
+use Rattle.std.specs.List.{AllByRecursion, flat_map}
 use Rattle.std.proofs.lemmas.Bool.Decides.{nat_tests}
-use Rattle.std.proofs.lemmas.List.{take-append-le, drop-append-le, drop-drop, length-take-le}
-use Rattle.std.proofs.Math.Seq.{drop-cons}
-use Rattle.std.proofs.lemmas.List.Sums.{sum_by-cons}
-use Rattle.trex_merge.specs.declared.key.Key.{Key}
-use Rattle.trex_core.specs.declared.record.Record.{Record}
-use Rattle.trex_core.specs.Batches.{IsWithin, bytes_of, has_room_for}
-use Rattle.trex_core.specs.declared.batch.TheConstants.{BATCH_PACKETS, BATCH_BYTES}
+use Rattle.std.proofs.lemmas.Grind.{flat_map-append}
+use Rattle.std.proofs.lemmas.List.{append-nil, drop_at, drop-drop, drop-map, length-map, map-append, take_at, take-append-drop, take-map}
+use Rattle.std.proofs.lemmas.List.Sums.{sum_by-append, sum_by-cons}
+use Rattle.trex_pcap.specs.Writing.{Packet, record_header_of, record_of}
 use Rattle.trex_merge.specs.Frames.{Frame}
-use Rattle.trex_core.specs.Records.{AreBatch, frame_with, frames_of, length_of}
 use Rattle.trex_merge.specs.Queues.{is_none_left}
+use Rattle.trex_core.specs.declared.batch.TheConstants.{BATCH_PACKETS, BATCH_BYTES, RECORD_HEADER}
+use Rattle.trex_core.specs.declared.waiting.Waiting.{Waiting}
+use Rattle.trex_core.specs.Batches.{IsWithin, bytes_of, has_room_for}
+use Rattle.trex_core.specs.Records.{AreBatch, frames_of, text_length, waiting_of}
+use Rattle.trex_core.specs.Texts.{packet_at, records_text}
 
--- there are as many packets as records
-pub length-frames_of : (rs : List Record) (bs : List ℕ) → length (frames_of rs bs) ≡ length rs
-length-frames_of [] bs = refl
-length-frames_of (r ∷ rs) bs = let e = length-frames_of rs (drop r.length bs) in grind (arith, e)
+-- the header of a record has as many bytes as that of every other
+length-record_header_of : (time n : ℕ) → length (record_header_of time n) ≡ RECORD_HEADER
+unfolding record_header_of
+length-record_header_of time n = refl
 
--- the records after the first have the bytes after its bytes
-pub length_of-rest : (r : Record) (rs : List Record) (bs : List ℕ) → length_of (r ∷ rs) ≡ length bs
-    → (r.length ≤ length bs) × (length_of rs ≡ length (drop r.length bs))
-length_of-rest r rs bs same =
-    let all : length_of (r ∷ rs) ≡ r.length + length_of rs = sum_by-cons (λ (x : Record). x.length) r rs in
-    (omega arith, omega (arith, length-drop r.length bs))
+-- the records of two lists of packets stand one after another
+pub records_text-append : (base : ℕ) (xs ys : List Frame) → records_text base (xs ++ ys) ≡ records_text base xs ++ records_text base ys
+records_text-append base xs ys =
+    ap (flat_map record_of) (map-append (packet_at base) xs ys) ∙ flat_map-append record_of (map (packet_at base) xs) (map (packet_at base) ys)
 
--- and as many bytes
-pub bytes_of-frames_of : (rs : List Record) (bs : List ℕ) → length_of rs ≡ length bs → bytes_of (frames_of rs bs) ≡ length bs
-bytes_of-frames_of [] bs same = same
-bytes_of-frames_of (r ∷ rs) bs same =
-    let rest = length_of-rest r rs bs same in
-    let first : length (take r.length bs) ≡ r.length = length-take-le r.length bs rest.0 in
-    let others : bytes_of (frames_of rs (drop r.length bs)) ≡ length (drop r.length bs) = bytes_of-frames_of rs (drop r.length bs) rest.1 in
-    let all : bytes_of (frames_of (r ∷ rs) bs) ≡ length (take r.length bs) + bytes_of (frames_of rs (drop r.length bs)) =
-    sum_by-cons (λ (f : Frame). length f.bytes) (frame_with r.key (take r.length bs)) (frames_of rs (drop r.length bs)) in
-    all ∙ omega (arith, first, others, rest.0, length-drop r.length bs)
+-- the record of a first packet: its header, its bytes, and the others' records
+pub records_text-first : (base : ℕ) (f : Frame) (fs : List Frame)
+    → records_text base (f ∷ fs) ≡ record_header_of (packet_at base f).time (length f.bytes) ++ (f.bytes ++ records_text base fs)
+records_text-first base f fs = append_assoc (record_header_of (packet_at base f).time (length f.bytes)) f.bytes (records_text base fs)
 
--- one record more, with its bytes after the others'
-pub frames_of-push : (rs : List Record) (bs : List ℕ) (key : Key) (new : List ℕ) → length_of rs ≡ length bs
-    → frames_of (rs ++ record { key = key; length = length new } ∷ []) (bs ++ new) ≡ frames_of rs bs ++ frame_with key new ∷ []
-frames_of-push [] [] key new same = ap (λ bytes. frame_with key bytes ∷ []) (take_all (length new) new (omega arith))
-frames_of-push [] (b ∷ bs) key new same = absurd (omega arith)
-frames_of-push (r ∷ rs) bs key new same =
-    let rest = length_of-rest r rs bs same in
-    let e : take r.length (bs ++ new) ≡ take r.length bs = take-append-le r.length bs new rest.0 in
-    let f : drop r.length (bs ++ new) ≡ drop r.length bs ++ new = drop-append-le r.length bs new rest.0 in
-    let later = frames_of-push rs (drop r.length bs) key new rest.1 in
-    rw (e, f, later) refl
+-- a record is as long as its header and its packet
+length-record_of : (base : ℕ) (f : Frame) → length (record_of (packet_at base f)) ≡ RECORD_HEADER + length f.bytes
+length-record_of base f =
+    let header = record_header_of (packet_at base f).time (length f.bytes) in
+    length-append header f.bytes ∙ ap (λ n. n + length f.bytes) (length-record_header_of (packet_at base f).time (length f.bytes))
+
+-- what is known of packets tells how long their records are
+pub text_length-waiting : (base : ℕ) (fs : List Frame) → text_length (map waiting_of fs) ≡ length (records_text base fs)
+text_length-waiting base [] = refl
+text_length-waiting base (f ∷ fs) =
+    let record_f = record_of (packet_at base f) in
+    sum_by-cons (λ (w : Waiting). RECORD_HEADER + w.length) (waiting_of f) (map waiting_of fs)
+    ∙ omega (arith, text_length-waiting base fs, length-append record_f (records_text base fs), length-record_of base f)
+
+-- records are as long as their headers and their packets
+pub length-records_text : (base : ℕ) (fs : List Frame) → length (records_text base fs) ≡ bytes_of fs + RECORD_HEADER * length fs
+length-records_text base [] = refl
+length-records_text base (f ∷ fs) =
+    let record_f = record_of (packet_at base f) in
+    omega (
+      arith,
+      length-records_text base fs,
+      length-append record_f (records_text base fs),
+      length-record_of base f,
+      sum_by-cons (λ (x : Frame). length x.bytes) f fs,
+    )
+
+-- what is known of packets and their records give the packets back
+pub frames_of-records : (base : ℕ) (fs : List Frame) → frames_of (map waiting_of fs) (records_text base fs) ≡ fs
+frames_of-records base [] = refl
+frames_of-records base (f ∷ fs) =
+    let header = record_header_of (packet_at base f).time (length f.bytes) in
+    let rest = records_text base fs in
+    let text = records_text base (f ∷ fs) in
+    let n = length f.bytes in
+    let behind : drop RECORD_HEADER text ≡ f.bytes ++ rest =
+    ap (drop RECORD_HEADER) (records_text-first base f fs) ∙ drop_at header (f.bytes ++ rest) RECORD_HEADER (length-record_header_of (packet_at base f).time n) in
+    let bytes : take n (drop RECORD_HEADER text) ≡ f.bytes = ap (take n) behind ∙ take_at f.bytes rest n refl in
+    let others : drop (RECORD_HEADER + n) text ≡ rest = sym (drop-drop n RECORD_HEADER text) ∙ ap (drop n) behind ∙ drop_at f.bytes rest n refl in
+    ap (λ (bs : List ℕ). let g : Frame = record { time = f.time; stream = f.stream; number = f.number; bytes = bs } in g ∷ frames_of (map waiting_of fs) (drop (RECORD_HEADER + n) text)) bytes
+    ∙ ap (λ (ts : List ℕ). f ∷ frames_of (map waiting_of fs) ts) others
+    ∙ ap (λ (gs : List Frame). f ∷ gs) (frames_of-records base fs)
+
+-- what is kept of some packets is a batch, and it is theirs
+pub batch_of_frames : (base : ℕ) (ws : List Waiting) (text : List ℕ) (fs : List Frame) → ws ≡ map waiting_of fs → text ≡ records_text base fs → IsWithin fs
+    → AreBatch base ws text × (frames_of ws text ≡ fs)
+batch_of_frames base ws text fs known records within =
+    let is : frames_of ws text ≡ fs =
+    ap (λ (v : List Waiting). frames_of v text) known ∙ ap (frames_of (map waiting_of fs)) records ∙ frames_of-records base fs in (
+      record {
+        known = known ∙ ap (map waiting_of) (sym is);
+        records = records ∙ ap (records_text base) (sym is);
+        within = subst IsWithin (sym is) within;
+      },
+      is,
+    )
 
 -- two tests of numbers
 both_hold : (a b c d : ℕ) → (nat_lt a b && nat_le c d) ≡ true → (a < b) × (c ≤ d)
 both_hold a b c d h = (grind (arith, nat_tests), grind (arith, nat_tests))
 
 -- what it means that there is room for one more packet
-pub room : (rs : List Record) (bs : List ℕ) (count : ℕ) → length_of rs ≡ length bs → has_room_for (frames_of rs bs) count ≡ true
-    → (length rs < BATCH_PACKETS) × (length bs + count ≤ BATCH_BYTES)
-room rs bs count same has =
-    let long = length-frames_of rs bs in
-    let full = bytes_of-frames_of rs bs same in
-    both_hold (length rs) BATCH_PACKETS (length bs + count) BATCH_BYTES (rw (← long, ← full) has)
+pub room : (fs : List Frame) (count : ℕ) → has_room_for fs count ≡ true → (length fs < BATCH_PACKETS) × (bytes_of fs + count ≤ BATCH_BYTES)
+room fs count has = both_hold (length fs) BATCH_PACKETS (bytes_of fs + count) BATCH_BYTES has
 
--- the test, of the records and the bytes
-pub room_is : (rs : List Record) (bs : List ℕ) (count : ℕ) → length_of rs ≡ length bs
-    → has_room_for (frames_of rs bs) count ≡ (nat_lt (length rs) BATCH_PACKETS && nat_le (length bs + count) BATCH_BYTES)
-room_is rs bs count same =
-    let long = length-frames_of rs bs in
-    let full = bytes_of-frames_of rs bs same in
-    rw (long, full) refl
+-- one packet more is within the limits
+pub within_more : (fs : List Frame) (f : Frame) → has_room_for fs (length f.bytes) ≡ true → IsWithin (fs ++ f ∷ [])
+within_more fs f has =
+    let fits = room fs (length f.bytes) has in
+    let size : Frame → ℕ = λ x. length x.bytes in
+    let more : bytes_of (fs ++ f ∷ []) ≡ bytes_of fs + bytes_of (f ∷ []) = sum_by-append size fs (f ∷ []) in
+    let one : bytes_of (f ∷ []) ≡ length f.bytes + 0 = sum_by-cons size f [] in
+    let packets : length (fs ++ f ∷ []) ≡ length fs + 1 = length-append fs (f ∷ []) in
+    record { packets = omega (arith, fits.0, packets); bytes = omega (arith, fits.1, more, one) }
 
--- a batch's packets are within its limits
-pub within : (rs : List Record) (bs : List ℕ) → AreBatch rs bs → IsWithin (frames_of rs bs)
-within rs bs batch = record {
-  packets = let e = length-frames_of rs bs in let short = batch.packets in omega arith;
-  bytes = let e = bytes_of-frames_of rs bs batch.same in let fits = batch.fits in omega arith;
-}
+-- without their first ones too
+pub within_drop : (n : ℕ) (fs : List Frame) → IsWithin fs → IsWithin (drop n fs)
+within_drop n fs within =
+    let size : Frame → ℕ = λ x. length x.bytes in
+    let all : bytes_of fs ≡ bytes_of (take n fs) + bytes_of (drop n fs) = ap bytes_of (sym (take-append-drop n fs)) ∙ sum_by-append size (take n fs) (drop n fs) in
+    record { packets = omega (arith, within.packets, length-drop n fs); bytes = omega (arith, within.bytes, all) }
 
--- without its first record a batch is one
-pub rest_of : (r : Record) (rs : List Record) (bs : List ℕ) → AreBatch (r ∷ rs) bs → (r.length ≤ length bs) × AreBatch rs (drop r.length bs)
-rest_of r rs bs batch =
-    let rest = length_of-rest r rs bs batch.same in
-    let short = batch.packets in
-    let fits = batch.fits in
-    (rest.0, record { same = rest.1; packets = omega arith; fits = omega (arith, length-drop r.length bs) })
+-- the text of the first packets and of the others
+pub records_text-parts : (base n : ℕ) (fs : List Frame) → records_text base fs ≡ records_text base (take n fs) ++ records_text base (drop n fs)
+records_text-parts base n fs = ap (records_text base) (sym (take-append-drop n fs)) ∙ records_text-append base (take n fs) (drop n fs)
+
+-- the first packets of a batch, and what is left of it behind them
+pub first_records : (base n : ℕ) (fs : List Frame) → take (length (records_text base (take n fs))) (records_text base fs) ≡ records_text base (take n fs)
+first_records base n fs =
+    let front = records_text base (take n fs) in
+    ap (take (length front)) (records_text-parts base n fs) ∙ take_at front (records_text base (drop n fs)) (length front) refl
+
+pub other_records : (base n : ℕ) (fs : List Frame) → drop (length (records_text base (take n fs))) (records_text base fs) ≡ records_text base (drop n fs)
+other_records base n fs =
+    let front = records_text base (take n fs) in
+    ap (drop (length front)) (records_text-parts base n fs) ∙ drop_at front (records_text base (drop n fs)) (length front) refl
+
+-- the records of a batch's first packets are as long as what is known of them tells
+pub length-first_records : (base n : ℕ) (ws : List Waiting) (text : List ℕ) → AreBatch base ws text
+    → text_length (take n ws) ≡ length (records_text base (take n (frames_of ws text)))
+length-first_records base n ws text batch =
+    let fs = frames_of ws text in
+    ap (λ (v : List Waiting). text_length (take n v)) batch.known ∙ ap text_length (take-map waiting_of n fs) ∙ text_length-waiting base (take n fs)
+
+-- they are the front of its text
+pub first_records_of : (base n : ℕ) (ws : List Waiting) (text : List ℕ) → AreBatch base ws text
+    → (take (text_length (take n ws)) text ≡ records_text base (take n (frames_of ws text))) × (text_length (take n ws) ≤ length text)
+first_records_of base n ws text batch =
+    let fs = frames_of ws text in
+    let long = length-first_records base n ws text batch in
+    let parts = records_text-parts base n fs in
+    let sizes = length-append (records_text base (take n fs)) (records_text base (drop n fs)) in (
+      ap (λ (m : ℕ). take m text) long ∙ ap (take (length (records_text base (take n fs)))) batch.records ∙ first_records base n fs,
+      omega (arith, long, ap length batch.records, ap length parts, sizes),
+    )
+
+-- a batch after its first packets, which are passed with their records
+pub batch_behind : (base taken from n passed : ℕ) (packets : List Waiting) (text : List ℕ) → AreBatch base (drop taken packets) (drop from text)
+    → passed ≡ text_length (take n (drop taken packets)) → from ≤ length text
+    → AreBatch base (drop (taken + n) packets) (drop (from + passed) text)
+    × (frames_of (drop (taken + n) packets) (drop (from + passed) text) ≡ drop n (frames_of (drop taken packets) (drop from text)))
+    × (from + passed ≤ length text)
+batch_behind base taken from n passed packets text batch is within =
+    let ws = drop taken packets in
+    let ts = drop from text in
+    let fs = frames_of ws ts in
+    let long = length-first_records base n ws ts batch in
+    let known : drop (taken + n) packets ≡ map waiting_of (drop n fs) = sym (drop-drop n taken packets) ∙ ap (drop n) batch.known ∙ drop-map waiting_of n fs in
+    let records : drop (from + passed) text ≡ records_text base (drop n fs) =
+    sym (drop-drop passed from text) ∙ ap (λ m. drop m ts) (is ∙ long) ∙ ap (drop (length (records_text base (take n fs)))) batch.records ∙ other_records base n fs in
+    let now = batch_of_frames base (drop (taken + n) packets) (drop (from + passed) text) (drop n fs) known records (within_drop n fs batch.within) in
+    (now.0, now.1, omega (arith, is, (first_records_of base n ws ts batch).1, length-drop from text))
+
+-- a batch with one packet more
+pub batch_more : (base : ℕ) (ws : List Waiting) (text : List ℕ) (f : Frame) → AreBatch base ws text → has_room_for (frames_of ws text) (length f.bytes) ≡ true
+    → AreBatch base (ws ++ waiting_of f ∷ []) (text ++ record_of (packet_at base f)) × (frames_of (ws ++ waiting_of f ∷ []) (text ++ record_of (packet_at base f)) ≡ frames_of ws text ++ f ∷ [])
+batch_more base ws text f batch has =
+    let fs = frames_of ws text in
+    let one : records_text base (f ∷ []) ≡ record_of (packet_at base f) = append-nil (record_of (packet_at base f)) in
+    batch_of_frames base (ws ++ waiting_of f ∷ []) (text ++ record_of (packet_at base f)) (fs ++ f ∷ [])
+    (ap (λ (v : List Waiting). v ++ waiting_of f ∷ []) batch.known ∙ sym (map-append waiting_of fs (f ∷ [])))
+    (ap (λ (t : List ℕ). t ++ record_of (packet_at base f)) batch.records ∙ ap (λ (t : List ℕ). records_text base fs ++ t) (sym one) ∙ sym (records_text-append base fs (f ∷ [])))
+    (within_more fs f has)
+
+-- there are as many packets as are known, and their records are as long as the text
+pub batch_long : (base : ℕ) (ws : List Waiting) (text : List ℕ) → AreBatch base ws text
+    → (length (frames_of ws text) ≡ length ws) × (length text ≡ bytes_of (frames_of ws text) + RECORD_HEADER * length ws)
+batch_long base ws text batch =
+    let fs = frames_of ws text in
+    let long : length fs ≡ length ws = sym (length-map fs waiting_of) ∙ ap length (sym batch.known) in
+    (long, omega (arith, ap length batch.records, length-records_text base fs, long))
 
 -- whether there is a packet
-pub none_left : (rs : List Record) (bs : List ℕ) → is_none_left (frames_of rs bs) ≡ eqb (length rs) 0
-none_left [] bs = refl
-none_left (r ∷ rs) bs = grind (arith, nat_tests)
+pub none_left : (ws : List Waiting) (text : List ℕ) → is_none_left (frames_of ws text) ≡ eqb (length ws) 0
+none_left [] text = refl
+none_left (w ∷ ws) text = grind (arith, nat_tests)
 
--- a batch after its first packet: the record at a place and its bytes are passed
-pub popped_is : (rs : List Record) (bs : List ℕ) (taken from : ℕ) (r : Record) → taken < length rs → r ≡ get_or rs taken r
-    → from ≤ length bs → AreBatch (drop taken rs) (drop from bs)
-    → AreBatch (drop (taken + 1) rs) (drop (from + r.length) bs) × (from + r.length ≤ length bs)
-popped_is rs bs taken from r within is long batch =
-    let first : drop taken rs ≡ r ∷ drop (taken + 1) rs =
-    drop-cons rs taken r within ∙ ap (λ (x : Record). x ∷ drop (suc taken) rs) (sym is) ∙ ap (λ n. r ∷ drop n rs) (sym (add-one taken)) in
-    let rest = rest_of r (drop (taken + 1) rs) (drop from bs) (subst (λ (xs : List Record). AreBatch xs (drop from bs)) first batch) in
-    (subst (AreBatch (drop (taken + 1) rs)) (drop-drop r.length from bs) rest.1, omega (arith, rest.0, length-drop from bs))
+-- the whole text is as long as what is known of the packets tells
+pub batch_text : (base : ℕ) (ws : List Waiting) (text : List ℕ) → AreBatch base ws text → text_length ws ≡ length text
+batch_text base ws text batch =
+    ap text_length batch.known ∙ text_length-waiting base (frames_of ws text) ∙ ap length (sym batch.records)
+
+-- what holds of all packets holds of those behind the first ones
+pub all_drop : (P : Frame → Type 0) (n : ℕ) (fs : List Frame) → AllByRecursion P fs → AllByRecursion P (drop n fs)
+all_drop P zero fs all = all
+all_drop P (suc n) [] all = tt
+all_drop P (suc n) (f ∷ fs) all = all_drop P n fs all.1

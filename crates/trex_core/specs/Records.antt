@@ -1,5 +1,5 @@
 -- How a batch is kept. Own.
-use Rattle.std.specs.Prelude.{◌≡◌, ℕ, ◌+◌, List, [], ◌∷◌, length, map, take, drop, sum_by}
+use Rattle.std.specs.Prelude.{◌≡◌, ℕ, ◌+◌, List, [], ◌∷◌, ◌++◌, length, map, take, drop, sum_by}
 use Rattle.trex_core.specs.Batches.{IsWithin}
 use Rattle.trex_core.specs.declared.batch.TheConstants.{RECORD_HEADER}
 use Rattle.trex_core.specs.declared.waiting.Waiting.{Waiting}
@@ -11,6 +11,10 @@ use Rattle.trex_merge.specs.Frames.{Frame, key_of}
 pub record BatchView : Type 0 where
   pub base : ℕ
   pub waiting : List Frame
+
+-- a batch with one packet more
+abbrev pub with_frame : Frame → BatchView → BatchView
+with_frame frame batch = record { base = batch.base; waiting = batch.waiting ++ frame ∷ [] }
 
 -- what a batch knows of a packet beside its record
 abbrev pub waiting_of : Frame → Waiting

@@ -1,6 +1,7 @@
 // The packets that wait in a core's batch.
 
 ghost use Rattle.std.specs.Prelude.{◌≡◌, ◌+◌, ◌*◌, ◌-◌, ◌<◌, ◌≤◌, ◌^◌, ◌++◌, ◌∷◌, ◌&&◌, List, [], nat_lt, nat_le, true, IfOk, length, map, take, drop, option_map, slice_get, vec_len};
+ghost use Rattle.std.specs.Option.{ForSome};
 ghost use Rattle.std.specs.Vec.{vec_capacity};
 ghost use Rattle.trex_core.specs.Batches.{IsWithin, has_room_for};
 ghost use Rattle.trex_core.specs.Records.{frame_with, text_length, waiting_of};
@@ -8,6 +9,10 @@ ghost use Rattle.trex_core.specs.Texts.{records_text};
 ghost use Rattle.trex_merge.specs.Frames.{Frame, frame_of, key_of};
 ghost use Rattle.trex_merge.specs.Queues.{is_none_left};
 ghost use Rattle.trex_merge.specs.Runs.{run_length, stands_before};
+ghost use Rattle.trex_pcap.specs.Writing.{record_of};
+ghost use Rattle.trex_stamp.specs.Stamp.{IsStamp};
+ghost use Rattle.trex_vm.specs.Packet.{after_all, stamped, version_of};
+ghost use Rattle.trex_vm.specs.Program.{AreValuesOf, IsFrontOf};
 
 use crate::run::Run;
 use crate::waiting::Waiting;
@@ -16,6 +21,9 @@ use std::marker::Model;
 use trex_io::Memory;
 use trex_merge::{Head, Key, is_before};
 use trex_pcap::record_header;
+use trex_stamp::Stamp;
+use trex_vars::VarValue;
+use trex_vm::{Program, finish_packet};
 
 /// The most packets that a batch holds.
 pub const BATCH_PACKETS: usize = 4_096;
@@ -88,22 +96,34 @@ impl Batch {
         is_room(packets, text - RECORD_HEADER * packets, count)
     }
 
-    /// Adds a packet after those that wait.
-    pub(crate) fn push(&mut self, key: Key, bytes: &[u8])
-        requires room { has_room_for self.old.waiting (length bytes.now) ≡ true }
+    /// Adds a packet after those that wait: what a program makes of the front of its template, which is as long as the packet.
+    pub(crate) fn push(
+        &mut self,
+        key: Key,
+        front: &[u8],
+        program: &Program,
+        values: &[VarValue],
+        stamp: Option<Stamp>,
+    )
+        requires room { has_room_for self.old.waiting (length front.now) ≡ true }
         requires time { key.time < 10 ^ 18 }
-        ensures { self.new ≡ record { base = self.old.base; waiting = self.old.waiting ++ frame_with key bytes.now ∷ [] } }
+        requires front { IsFrontOf program.now values.now front.now }
+        requires values { AreValuesOf program.now values.now }
+        requires stamp { version_of stamp ≡ program.now.stamp }
+        requires fits { ForSome stamp IsStamp }
+        ensures { self.new ≡ record {
+          base = self.old.base;
+          waiting = self.old.waiting ++ frame_with key (after_all values.now program.now.instrs (stamped stamp front.now)) ∷ [];
+        } }
     {
         remove_front(&mut self.packets, self.taken);
         self.taken = 0;
         remove_front(&mut self.text, self.from);
         self.from = 0;
-        let length = bytes.len();
+        let length = front.len();
         self.packets.push(Waiting { key, length }).unwrap();
         let time = u64::from(self.base) * NANOSECONDS_PER_SECOND + key.time;
-        let header = record_header(time, length as u32);
-        self.text.extend_from_slice(&header).unwrap();
-        self.text.extend_from_slice(bytes).unwrap();
+        add_record(&mut self.text, time, front, program, values, stamp);
     }
 
     /// The first packet that waits.
@@ -143,8 +163,8 @@ impl Batch {
         ensures packets { result.packets.now ≡ map waiting_of (take (run_length before most self.now.waiting) self.now.waiting) }
         ensures text { result.text.now ≡ records_text self.now.base (take (run_length before most self.now.waiting) self.now.waiting) }
     {
-        let packets = &self.packets[self.taken..];
-        let (count, bytes) = measure_run(packets, before, most);
+        let packets = front_of(&self.packets[self.taken..], most);
+        let (count, bytes) = measure_run(packets, before);
         Run {
             packets: &packets[..count],
             text: &self.text[self.from..self.from + bytes],
@@ -177,6 +197,35 @@ fn is_room(packets: usize, bytes: usize, count: usize) -> bool
     packets < BATCH_PACKETS && count <= BATCH_BYTES - bytes
 }
 
+/// Adds the record of a packet, whose absolute time is in nanoseconds, to a text that has room for it. The packet is made there, of the front of
+/// its template.
+fn add_record(
+    text: &mut Vec<u8>,
+    time: u64,
+    front: &[u8],
+    program: &Program,
+    values: &[VarValue],
+    stamp: Option<Stamp>,
+)
+    requires time { time < 2 ^ 32 * 10 ^ 9 }
+    requires small { length front.now < 2 ^ 32 }
+    requires room { vec_len text.old + (RECORD_HEADER + length front.now) ≤ vec_capacity text.old }
+    requires front { IsFrontOf program.now values.now front.now }
+    requires values { AreValuesOf program.now values.now }
+    requires stamp { version_of stamp ≡ program.now.stamp }
+    requires fits { ForSome stamp IsStamp }
+    ensures items { text.new.items ≡ text.old.items
+        ++ record_of (record { time = time; bytes = after_all values.now program.now.instrs (stamped stamp front.now) }) }
+    ensures capacity { vec_capacity text.new ≡ vec_capacity text.old }
+    ensures long { length (after_all values.now program.now.instrs (stamped stamp front.now)) ≡ length front.now }
+{
+    let header = record_header(time, front.len() as u32);
+    text.extend_from_slice(&header).unwrap();
+    let at = text.len();
+    text.extend_from_slice(front).unwrap();
+    finish_packet(program, values, stamp, &mut text[at..]);
+}
+
 /// Whether a packet stands before a key, or there is none.
 fn stands_before(key: &Key, before: Option<Key>) -> bool
     ensures { result ≡ stands_before key.now before }
@@ -187,21 +236,32 @@ fn stands_before(key: &Key, before: Option<Key>) -> bool
     }
 }
 
-/// How many packets at the front stand before a key, or all where there is none, but at most so many; and how many bytes their records have.
-fn measure_run(packets: &[Waiting], before: Option<Key>, most: u64) -> (usize, usize)
-    requires short { text_length packets.now < 2 ^ 40 }
-    ensures packets { (frames : List Frame) → packets.now ≡ map waiting_of frames → result.0 ≡ run_length before most frames }
+/// The first packets, at most so many.
+fn front_of(packets: &[Waiting], most: u64) -> &[Waiting]
+    ensures { result.now ≡ take most packets.now }
+{
+    if most < packets.len() as u64 {
+        &packets[..most as usize]
+    } else {
+        packets
+    }
+}
+
+/// How many packets at the front stand before a key, or all where there is none; and how many bytes their records have.
+fn measure_run(packets: &[Waiting], before: Option<Key>) -> (usize, usize)
+    requires { text_length packets.now < 2 ^ 40 }
+    ensures packets { (frames : List Frame) → packets.now ≡ map waiting_of frames → result.0 ≡ run_length before (length packets.now) frames }
     ensures within { result.0 ≤ length packets.now }
     ensures bytes { result.1 ≡ text_length (take result.0 packets.now) }
 {
     let mut count = 0;
     let mut bytes = 0;
-    while count < packets.len()
-        && (count as u64) < most
-        && stands_before(&packets[count].key, before)
-    {
-        bytes += RECORD_HEADER + packets[count].length;
+    for packet in packets {
+        if !stands_before(&packet.key, before) {
+            return (count, bytes);
+        }
         count += 1;
+        bytes += RECORD_HEADER + packet.length;
     }
     (count, bytes)
 }

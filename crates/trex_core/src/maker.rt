@@ -1,23 +1,26 @@
 // The making of a core's packets.
 
-ghost use Rattle.std.specs.Prelude.{◌≡◌, ◌<◌, ◌≤◌, ◌^◌, IfOk, IsSomeAnd, length, map, slice_get, take};
+ghost use Rattle.std.specs.Prelude.{◌≡◌, ◌<◌, ◌≤◌, ◌^◌, true, false, IfOk, IsSomeAnd, length, map, slice_get};
 ghost use Rattle.std.specs.Option.{ForSome, option_map};
-ghost use Rattle.trex_core.specs.Plan.{IsSlotOf, packet_bytes};
+ghost use Rattle.trex_core.specs.Batches.{IsWithin, has_room_for};
+ghost use Rattle.trex_core.specs.Plan.{IsSlotOf, frame_at, packet_bytes};
+ghost use Rattle.trex_core.specs.Records.{with_frame};
 ghost use Rattle.trex_core.specs.Registers.{values_by};
 ghost use Rattle.trex_profile.specs.Flow.{IsFlow, sequence_of, stamp_with};
 ghost use Rattle.trex_profile.specs.Packets.{values_of};
 ghost use Rattle.trex_stamp.specs.Stamp.{IsStamp, sequence_size};
 
+use crate::batch::Batch;
 use crate::plan::Plan;
 use crate::registers::Registers;
 use std::alloc::Global;
 use std::marker::Model;
 use trex_io::Memory;
+use trex_merge::Keyed;
 use trex_profile::Flow;
 use trex_sched::Slot;
 use trex_stamp::{Stamp, Version};
 use trex_vars::VarValue;
-use trex_vm::run_plain;
 
 /// The most bytes that a packet has.
 pub const LONGEST_PACKET: usize = trex_layers::LONGEST_PACKET;
@@ -59,15 +62,17 @@ impl<'p> Maker<'p> {
         Ok(Maker { plan, registers })
     }
 
-    /// Makes a packet at the front of the scratch, and answers its length in bytes.
-    pub(crate) fn make(&mut self, slot: &Slot, scratch: &mut [u8]) -> usize
+    /// Puts a packet to a batch that has room for it, and answers whether it has.
+    pub(crate) fn put(&mut self, slot: &Slot, batch: &mut Batch) -> bool
         requires slot { IsSlotOf self.old.profile slot.now }
-        requires room { length scratch.old ≡ LONGEST_PACKET }
-        ensures packet { take result scratch.new ≡ packet_bytes self.old.profile self.old.base slot.now }
-        ensures short { result ≤ LONGEST_PACKET }
+        ensures room { result ≡ has_room_for batch.old.waiting (length (packet_bytes self.old.profile self.old.base slot.now)) }
+        ensures within { IsWithin batch.old.waiting }
+        ensures added { result ≡ true → batch.new ≡ with_frame (frame_at self.old.profile self.old.base slot.now) batch.old }
+        ensures kept { result ≡ false → batch.new ≡ batch.old }
+        ensures short { length (packet_bytes self.old.profile self.old.base slot.now) ≤ LONGEST_PACKET }
         ensures plan { self.new ≡ self.old }
     {
-        make_packet(self.plan, &mut self.registers, slot, scratch)
+        put_packet(self.plan, &mut self.registers, slot, batch)
     }
 }
 
@@ -91,37 +96,47 @@ fn registers_of<'p>(
     Ok(all)
 }
 
-/// Makes a packet with the registers of its stream.
-fn make_packet(
+/// Puts a packet to a batch with the registers of its stream, and answers whether there is room for it.
+fn put_packet(
     plan: &Plan<'_>,
     registers: &mut [Registers<'_>],
     slot: &Slot,
-    scratch: &mut [u8],
-) -> usize
+    batch: &mut Batch,
+) -> bool
     requires slot { IsSlotOf plan.now.profile slot.now }
     requires registers { map values_by registers.old ≡ map values_of plan.now.profile }
-    requires room { length scratch.old ≡ LONGEST_PACKET }
-    ensures packet { take result scratch.new ≡ packet_bytes plan.now.profile plan.now.base slot.now }
-    ensures short { result ≤ LONGEST_PACKET }
+    ensures room { result ≡ has_room_for batch.old.waiting (length (packet_bytes plan.now.profile plan.now.base slot.now)) }
+    ensures within { IsWithin batch.old.waiting }
+    ensures added { result ≡ true → batch.new ≡ with_frame (frame_at plan.now.profile plan.now.base slot.now) batch.old }
+    ensures kept { result ≡ false → batch.new ≡ batch.old }
+    ensures short { length (packet_bytes plan.now.profile plan.now.base slot.now) ≤ LONGEST_PACKET }
     ensures registers { map values_by registers.new ≡ map values_by registers.old }
 {
     let position = slot.stream as usize;
     registers[position].go_to(slot.number, slot.in_run);
-    write_packet(plan, slot, registers[position].values(), scratch)
+    put_values(plan, slot, registers[position].values(), batch)
 }
 
-/// Makes a packet of the values of its stream's variables.
-fn write_packet(plan: &Plan<'_>, slot: &Slot, values: &[VarValue], scratch: &mut [u8]) -> usize
+/// Puts a packet to a batch with the values of its stream's variables, and answers whether there is room for it.
+fn put_values(plan: &Plan<'_>, slot: &Slot, values: &[VarValue], batch: &mut Batch) -> bool
     requires slot { IsSlotOf plan.now.profile slot.now }
     requires values { IsSomeAnd (slice_get plan.now.profile slot.now.stream)
         (λ stream. values.now ≡ values_of stream slot.now.number slot.now.in_run) }
-    requires room { length scratch.old ≡ LONGEST_PACKET }
-    ensures packet { take result scratch.new ≡ packet_bytes plan.now.profile plan.now.base slot.now }
-    ensures short { result ≤ LONGEST_PACKET }
+    ensures room { result ≡ has_room_for batch.old.waiting (length (packet_bytes plan.now.profile plan.now.base slot.now)) }
+    ensures within { IsWithin batch.old.waiting }
+    ensures added { result ≡ true → batch.new ≡ with_frame (frame_at plan.now.profile plan.now.base slot.now) batch.old }
+    ensures kept { result ≡ false → batch.new ≡ batch.old }
+    ensures short { length (packet_bytes plan.now.profile plan.now.base slot.now) ≤ LONGEST_PACKET }
 {
     let spec = plan.stream(slot.stream as usize);
+    let length = spec.program.packet_length(values);
     let stamp = stamp_of(spec.flow, slot.number, plan.time_of(slot));
-    run_plain(&spec.program, &spec.template, values, stamp, scratch)
+    if !batch.has_room_for(length) {
+        return false;
+    }
+    let front = &spec.template[..length];
+    batch.push(slot.key(), front, &spec.program, values, stamp);
+    true
 }
 
 /// The latency header of a packet, if its stream has a flow.

@@ -13,14 +13,14 @@ ghost use Rattle.trex_merge.specs.Queues.{is_needy, stem};
 ghost use Rattle.trex_merge.specs.Runs.{run_length};
 
 use crate::batch::Batch;
-use crate::maker::{LONGEST_PACKET, Maker};
+use crate::maker::Maker;
 use crate::plan::Plan;
 use crate::run::Run;
 use std::alloc::Global;
 use std::marker::Model;
 use trex_claims::Piece;
 use trex_io::Memory;
-use trex_merge::{Feed, Head, Key, Keyed};
+use trex_merge::{Feed, Head, Key};
 use trex_sched::Walks;
 
 /// The packets of one core of a plan: those that wait in its batch, and those that it has still to make.
@@ -31,14 +31,11 @@ pub struct CoreWork<'p> {
     maker: Maker<'p>,
     walks: Walks<'p>,
     batch: Batch,
-    // where a packet is made
-    scratch: Vec<u8>,
 }
 
 impl<'p> Model for CoreWork<'p> {
     ghost use Rattle.std.specs.Prelude.{◌≡◌, map, vec_len};
     ghost use Rattle.std.specs.List.{AllByRecursion};
-    ghost use Rattle.trex_core.specs.declared.maker.TheConstants.{LONGEST_PACKET as LONGEST};
     ghost use Rattle.trex_core.specs.Batches.{IsWithin};
     ghost use Rattle.trex_core.specs.Plan.{IsSlotOf, frame_at};
     ghost use Rattle.trex_core.specs.Works.{IsMade, Work};
@@ -55,8 +52,7 @@ impl<'p> Model for CoreWork<'p> {
     ghost invariant = { λ w. AllByRecursion (IsSlotOf w.maker.profile) w.walks
         × IsWithin w.batch.waiting
         × AllByRecursion IsMade w.batch.waiting
-        × (w.batch.base ≡ w.maker.base)
-        × (vec_len w.scratch ≡ LONGEST) };
+        × (w.batch.base ≡ w.maker.base) };
 }
 
 impl<'p> CoreWork<'p> {
@@ -80,14 +76,12 @@ impl<'p> CoreWork<'p> {
         let walks = plan.walks(alloc, core, cores)?;
         let maker = Maker::new(alloc, plan, core, cores)?;
         let batch = Batch::new(alloc, plan.base())?;
-        let scratch = vec![in alloc; 0; LONGEST_PACKET]?;
         Ok(CoreWork {
             core,
             turns: 0,
             maker,
             walks,
             batch,
-            scratch,
         })
     }
 
@@ -100,12 +94,7 @@ impl<'p> CoreWork<'p> {
         // An empty batch has room for any packet: where something is left, something waits.
         ensures calm { is_needy self.new.queue ≡ false }
     {
-        fill(
-            &mut self.maker,
-            &mut self.walks,
-            &mut self.batch,
-            &mut self.scratch,
-        );
+        fill(&mut self.maker, &mut self.walks, &mut self.batch);
         self.turns += 1;
     }
 
@@ -141,11 +130,10 @@ impl<'p> CoreWork<'p> {
 }
 
 /// Puts packets to a batch, until one doesn't fit or none is left.
-fn fill(maker: &mut Maker<'_>, walks: &mut Walks<'_>, batch: &mut Batch, scratch: &mut [u8])
+fn fill(maker: &mut Maker<'_>, walks: &mut Walks<'_>, batch: &mut Batch)
     requires slots { AllByRecursion (IsSlotOf maker.old.profile) walks.old }
     requires within { IsWithin batch.old.waiting }
     requires made { AllByRecursion IsMade batch.old.waiting }
-    requires scratch { length scratch.old ≡ LONGEST_PACKET }
     ensures stem { batch.new.waiting ++ map (frame_at maker.old.profile maker.old.base) walks.new
         ≡ batch.old.waiting ++ map (frame_at maker.old.profile maker.old.base) walks.old }
     ensures more { length batch.old.waiting ≤ length batch.new.waiting }
@@ -157,11 +145,9 @@ fn fill(maker: &mut Maker<'_>, walks: &mut Walks<'_>, batch: &mut Batch, scratch
     ensures maker { maker.new ≡ maker.old }
 {
     'packets: while let Some(slot) = walks.peek() {
-        let length = maker.make(&slot, scratch);
-        if !batch.has_room_for(length) {
+        if !maker.put(&slot, batch) {
             return;
         }
-        batch.push(slot.key(), &scratch[..length]);
         walks.next();
     }
 }

@@ -13,7 +13,7 @@ fold_of-zero : fold_of 0 ≡ 0
 unfolding fold_of
 fold_of-zero = refl
 
-fold_of-pos : (s : ℕ) → fold_of (suc s) ≡ 1 + s % 65535
+pub fold_of-pos : (s : ℕ) → fold_of (suc s) ≡ 1 + s % 65535
 unfolding fold_of
 fold_of-pos s = grind (arith, nat_tests)
 

@@ -1,3 +1,4 @@
 pub mod SumLemmas
 pub mod ChecksumLemmas
 mod Pieces
+mod WideLemmas

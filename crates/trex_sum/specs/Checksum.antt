@@ -1,11 +1,15 @@
 -- The Internet checksum.
-use Rattle.std.specs.Prelude.{◌≡◌, ◌==◌, ℕ, ◌+◌, ◌-◌, ◌*◌, ◌%◌, List, [], ◌∷◌, if◌then◌else◌}
+use Rattle.std.specs.Prelude.{◌≡◌, ◌==◌, ℕ, ◌+◌, ◌-◌, ◌*◌, ◌%◌, List, [], ◌∷◌, slice_index, if◌then◌else◌}
 
 -- the plain sum of the 16-bit big-endian words, an odd last byte padded with zero on the right (RFC 1071, section 1)
 abbrev pub sum_of : List ℕ → ℕ
 sum_of [] = 0
 sum_of (x ∷ []) = 256 * x
 sum_of (x ∷ y ∷ rest) = (256 * x + y) + sum_of rest
+
+-- the 16-bit big-endian word at a place
+abbrev pub word_at : List ℕ → ℕ → ℕ
+word_at bytes place = 256 * slice_index bytes place + slice_index bytes (place + 1)
 
 -- the ones' complement fold of a sum into 16 bits, which is 0 only for 0 (RFC 1071, section 1)
 unfoldable pub fold_of : ℕ → ℕ

@@ -5,6 +5,8 @@ mod running;
 mod sums;
 #[cfg(test)]
 mod tests;
+mod wide;
 
 pub use running::RunningSum;
 pub use sums::{ALL_ONES, fold, ones_for_zero, sum_words, verifies};
+pub use wide::fold_sum;

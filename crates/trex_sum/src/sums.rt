@@ -1,7 +1,7 @@
 // Sums of words, their fold, and checksums as they are written.
 
 ghost use Rattle.std.specs.Prelude.{◌≡◌, ℕ, ◌+◌, ◌-◌, ◌*◌, ◌^◌, ◌<◌, ◌≤◌, ◌↔◌, IsTrue, length};
-ghost use Rattle.trex_sum.specs.Checksum.{sum_of, fold_of, ones_for_zero, Verifies};
+ghost use Rattle.trex_sum.specs.Checksum.{sum_of, word_at, fold_of, ones_for_zero, Verifies};
 
 /// A sum that verifies folds to this, and a checksum is the rest that its words' fold leaves of it (RFC 1071, section 1).
 pub const ALL_ONES: u16 = 0xffff;
@@ -21,37 +21,58 @@ pub fn sum_words(bytes: &[u8]) -> u64
         total += sum_four_words(front);
         rest = back;
     }
-    total + sum_each_word(rest)
+    total + sum_tail(rest)
 }
 
-/// The sum of the four words in eight bytes, which are read as one number.
+/// The sum of the four words in eight bytes.
 fn sum_four_words(bytes: &[u8]) -> u64
     requires { length bytes.now ≡ 8 }
     ensures value { result ≡ sum_of bytes.now }
     ensures bound { result ≤ 262140 }
 {
-    let word = u64::from_be_bytes([
-        bytes[0], bytes[1], bytes[2], bytes[3], bytes[4], bytes[5], bytes[6], bytes[7],
-    ]);
+    let word = number_of(bytes);
     (word >> 48) + (word >> 32) % 65536 + (word >> 16) % 65536 + word % 65536
 }
 
-/// The sum of some bytes, word by word.
-fn sum_each_word(bytes: &[u8]) -> u64
-    requires { length bytes.now < 2 ^ 40 }
+/// The number that eight bytes spell, the first one highest.
+#[inline(always)]
+pub(crate) fn number_of(bytes: &[u8]) -> u64
+    requires { length bytes.now ≡ 8 }
+    ensures { result ≡ 2 ^ 48 * word_at bytes.now 0 + 2 ^ 32 * word_at bytes.now 2 + 2 ^ 16 * word_at bytes.now 4 + word_at bytes.now 6 }
+{
+    u64::from_be_bytes([
+        bytes[0], bytes[1], bytes[2], bytes[3], bytes[4], bytes[5], bytes[6], bytes[7],
+    ])
+}
+
+/// The sum of the last seven bytes at most: two words, one word, one byte.
+#[inline(always)]
+pub(crate) fn sum_tail(bytes: &[u8]) -> u64
+    requires { length bytes.now < 8 }
     ensures value { result ≡ sum_of bytes.now }
     ensures bound { result ≤ 65536 * length bytes.now }
 {
     let mut total = 0;
     let mut rest = bytes;
-    while let [high, low, tail @ ..] = rest {
-        total += u64::from(*high) * 256 + u64::from(*low);
+    if let [first_high, first_low, second_high, second_low, tail @ ..] = rest {
+        total += word_of(*first_high, *first_low) + word_of(*second_high, *second_low);
+        rest = tail;
+    }
+    if let [high, low, tail @ ..] = rest {
+        total += word_of(*high, *low);
         rest = tail;
     }
     if let [last] = rest {
-        total += u64::from(*last) * 256;
+        total += word_of(*last, 0);
     }
     total
+}
+
+/// The word of two bytes.
+fn word_of(high: u8, low: u8) -> u64
+    ensures { result ≡ 256 * high + low }
+{
+    u64::from(high) * 256 + u64::from(low)
 }
 
 /// The ones' complement fold of a sum into 16 bits: 0 only for 0 (RFC 1071, section 1).

@@ -49,9 +49,9 @@ with_checksum-verifies written part field b completes holds =
     let total : sum_of (part (put field (high ∷ low ∷ []) zeroed)) ≡ s + n = ap (λ (c : List ℕ). sum_of (part c)) once ∙ after ∙ omega arith in
     ap fold_of total ∙ completes.folds s
 
--- the steps of a fix: the field is zeroed, the part is summed, and the number is written
+-- the steps of a fix: the field is zeroed, the part is summed and folded, and the number is written
 pub with_checksum_by_steps : (written : ℕ → ℕ) (part : List ℕ → List ℕ) (field : ℕ) (old zeroed new : List ℕ) (s n : ℕ) → zeroed ≡ put field (0 ∷ 0 ∷ []) old
-    → s ≡ sum_of (part zeroed) → n ≡ written (65535 - fold_of s) → new ≡ put field (big_bytes 2 n) zeroed → new ≡ with_checksum written part field old
+    → s ≡ fold_of (sum_of (part zeroed)) → n ≡ written (65535 - s) → new ≡ put field (big_bytes 2 n) zeroed → new ≡ with_checksum written part field old
 unfolding with_checksum
 with_checksum_by_steps written part field old zeroed new s n zeroes sums completes writes = cc
 

@@ -20,7 +20,7 @@ use Rattle.trex_vm.specs.declared.instr.Part.{Part}
 use Rattle.trex_vm.specs.declared.instr.Part.TheVariants.{Whole, Ip, Port}
 use Rattle.trex_vm.specs.declared.instr.Instr.{Instr}
 use Rattle.trex_vm.specs.declared.instr.Instr.TheVariants.{Write, WriteMask}
-use Rattle.trex_vm.specs.Effect.{trim_of}
+use Rattle.trex_vm.specs.Effect.{first_trim, trim_of}
 use Rattle.trex_vm.specs.Write.{part_of, number_in}
 use Rattle.trex_vm.specs.Packet.{trimmed}
 use Rattle.trex_vm.specs.Rules.{least_length, room_of, no_room_for_stamp, is_trim, cuts_wrong, trim_wrong, writes_past, misses_header, overwrites_header_kind, accepts}
@@ -91,6 +91,26 @@ trim-takes : (count : ℕ) (i : Instr) (from : Operand) → trim_of i ≡ Some f
 trim-takes count (Write from at add big) other is takes = absurd (cc)
 trim-takes count (WriteMask from at cast mask shift add big) other is takes = absurd (cc)
 trim-takes count i other is takes = let Takes : Option Operand → Type 0 = λ o. IfSome o (λ from. from.var < count) in subst Takes is takes
+
+-- the operand of the first trim takes from the variables as its instruction does
+pub first_trim-takes : (count : ℕ) (instrs : List Instr) (from : Operand) → first_trim instrs ≡ Some from → AllByRecursion (TakesFrom count) instrs → from.var < count
+first_trim-takes count [] from is takes = absurd (cc)
+first_trim-takes count (i ∷ rest) from is takes = by_trim (trim_of i) (λ other same. trim-takes count i other same takes.0) (λ later. first_trim-takes count rest from later takes.1) is
+  where
+    by_trim : (trim : Option Operand) → ((other : Operand) → trim ≡ Some other → other.var < count) → (first_trim rest ≡ Some from → from.var < count)
+        → option_map_or (λ it. Some it) trim (first_trim rest) ≡ Some from → from.var < count
+    by_trim None here later same = later same
+    by_trim (Some other) here later same = here from same
+
+-- the packet's length is the number of the first trim's operand, or the whole template's length where there is none
+pub trimmed-first_trim : (values : List VarValue) (instrs : List Instr) (whole : ℕ) → trimmed values instrs whole ≡ option_map_or (number_in values) (first_trim instrs) whole
+trimmed-first_trim values [] whole = refl
+trimmed-first_trim values (i ∷ rest) whole = by_trim (trim_of i) (trimmed-first_trim values rest whole)
+  where
+    by_trim : (trim : Option Operand) → trimmed values rest whole ≡ option_map_or (number_in values) (first_trim rest) whole
+        → option_map_or (number_in values) trim (trimmed values rest whole) ≡ option_map_or (number_in values) (option_map_or (λ it. Some it) trim (first_trim rest)) whole
+    by_trim None later = later
+    by_trim (Some from) later = refl
 
 -- the packet's length lies from the least packet length to the template's length
 pub trimmed-between : (vars : List Variable) (values : List VarValue) (d : Variable) (instrs : List Instr) (whole : ℕ) → AreWithin vars values

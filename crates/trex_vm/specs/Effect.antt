@@ -1,5 +1,6 @@
 -- What an instruction does to a packet, by three projections: each kind of instruction writes a number, fixes a checksum or cuts the packet. Own.
-use Rattle.std.specs.Prelude.{ℕ, ◌+◌, Bool, ◌&&◌, nat_le, nat_lt, Option, Some, None}
+use Rattle.std.specs.Prelude.{ℕ, ◌+◌, Bool, ◌&&◌, nat_le, nat_lt, List, [], ◌∷◌, Option, Some, None}
+use Rattle.std.specs.Option.{option_map_or}
 use Rattle.trex_headers.specs.declared.constants.TheConstants.{IPV6_LEN}
 use Rattle.trex_headers.specs.declared.layer.Version.TheVariants.{V4, V6}
 use Rattle.trex_vm.specs.declared.effect.Fix.{Fix}
@@ -31,6 +32,11 @@ fix_of _ = None
 abbrev pub trim_of : Instr → Option Operand
 trim_of (Trim from) = Some from
 trim_of _ = None
+
+-- the operand of the first trim, if there is one
+abbrev pub first_trim : List Instr → Option Operand
+first_trim [] = None
+first_trim (instr ∷ rest) = option_map_or (λ from. Some from) (trim_of instr) (first_trim rest)
 
 -- the operand that an instruction takes: that of a write or a trim
 abbrev pub operand_of : Instr → Option Operand

@@ -1,5 +1,5 @@
 -- Programs, and for which templates and values they are meant. Own.
-use Rattle.std.specs.Prelude.{◌≡◌, ℕ, ◌<◌, ◌≤◌, negsuc, pos, ◌≤ℤ◌, false, List, length, Option, None, IfSome, All}
+use Rattle.std.specs.Prelude.{◌≡◌, ℕ, ◌<◌, ◌≤◌, negsuc, pos, ◌≤ℤ◌, false, List, length, take, Option, None, IfSome, All}
 use Rattle.std.specs.List.{AllZip, list_any, count_by}
 use Rattle.trex_layers.specs.declared.sizes.TheConstants.{LONGEST_PACKET, SHORTEST_PACKET}
 use Rattle.trex_fields.specs.Bytes.{IsSize}
@@ -75,3 +75,9 @@ pub record AreValuesOf (p : ProgramView) (values : List VarValue) : Type 0 where
   pub operands : All (TakesFrom (length values)) p.instrs
   pub least : p.least ≤ trimmed values p.instrs p.template
   pub most : trimmed values p.instrs p.template ≤ p.template
+
+-- the bytes are the front of a template of the program, as long as the packet of the values
+pub record IsFrontOf (p : ProgramView) (values : List VarValue) (bytes : List ℕ) : Type 0 where
+  pub template : List ℕ
+  pub meant : IsTemplateOf p template
+  pub is : bytes ≡ take (trimmed values p.instrs (length template)) template

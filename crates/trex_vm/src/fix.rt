@@ -3,14 +3,14 @@
 ghost use Rattle.std.specs.Prelude.{◌≡◌, ◌+◌, ◌*◌, ◌%◌, ◌<◌, ◌≤◌, ◌++◌, IsTrue, length};
 ghost use Rattle.std.specs.List.{slice_range};
 ghost use Rattle.trex_headers.specs.Network.{network_of};
-ghost use Rattle.trex_sum.specs.Checksum.{sum_of};
+ghost use Rattle.trex_sum.specs.Checksum.{fold_of, sum_of};
 ghost use Rattle.trex_vm.specs.Fix.{fixed_ipv4, fixed_segment, header_length, least_segment, left_for_segment, protocol_of, pseudo_header, segment_at, segment_fits, segment_length, sum_place, with_checksum, written_sum};
 
 use crate::instr::L4Kind;
 use trex_fields::{read_be, write_be};
 use trex_headers::{Version as IpVersion, network_places};
 use trex_layers::{PROTOCOL_TCP, PROTOCOL_UDP, TCP_LEN, UDP_LEN};
-use trex_sum::{ALL_ONES, fold, ones_for_zero, sum_words};
+use trex_sum::{ALL_ONES, fold_sum, ones_for_zero, sum_words};
 
 /// The offset of the checksum in an IPv4 header (RFC 791, section 3.1).
 pub(crate) const HEADER_SUM: usize = 10;
@@ -33,8 +33,8 @@ pub(crate) fn fix_ipv4(packet: &mut [u8], at: usize)
 {
     let end = at + words_to_bytes(packet[at]);
     write_be::<2>(packet, at + HEADER_SUM, 0);
-    let sum = sum_words(&packet[at..end]);
-    write_be::<2>(packet, at + HEADER_SUM, u64::from(ALL_ONES - fold(sum)));
+    let folded = fold_sum(0, &packet[at..end]);
+    write_be::<2>(packet, at + HEADER_SUM, u64::from(ALL_ONES - folded));
 }
 
 /// The protocol or next header of a kind of segment (RFC 790; RFC 8200, section 3).
@@ -110,17 +110,17 @@ fn length_of_segment(
     }
 }
 
-/// The sum of the pseudo header of the IP header at `ip`, and of the segment of `len` bytes from `at` on.
-fn segment_sum(packet: &[u8], version: IpVersion, ip: usize, at: usize, len: usize) -> u64
+/// The folded sum of the pseudo header of the IP header at `ip`, and of the segment of `len` bytes from `at` on.
+fn folded_segment(packet: &[u8], version: IpVersion, ip: usize, at: usize, len: usize) -> u16
     requires header { ip + (network_of version).end ≤ at }
     requires room { at + len ≤ length packet.now }
     requires short { len < 65536 }
-    ensures { result ≡ sum_of (pseudo_header version ip len packet.now ++ slice_range packet.now at (at + len)) }
+    ensures { result ≡ fold_of (sum_of (pseudo_header version ip len packet.now ++ slice_range packet.now at (at + len))) }
 {
     let net = network_places(version);
     let addresses = sum_words(&packet[ip + net.addresses..ip + net.end]);
     let protocol = u64::from(packet[ip + net.protocol]);
-    addresses + protocol + len as u64 + sum_words(&packet[at..at + len])
+    fold_sum(addresses + protocol + len as u64, &packet[at..at + len])
 }
 
 /// Writes the checksum of a segment that fits.
@@ -141,11 +141,11 @@ fn write_segment_sum(
     let at = ip + header;
     let field = at + sum_place(kind);
     write_be::<2>(packet, field, 0);
-    let sum = segment_sum(packet, version, ip, at, len);
+    let folded = folded_segment(packet, version, ip, at, len);
     write_be::<2>(
         packet,
         field,
-        u64::from(written_sum(kind, ALL_ONES - fold(sum))),
+        u64::from(written_sum(kind, ALL_ONES - folded)),
     );
 }
 

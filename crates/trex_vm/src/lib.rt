@@ -17,4 +17,4 @@ pub use rules::{
     is_trim, least_length, misses_header, no_room_for_stamp, overwrites_header_kind, room_of,
     trim_wrong, writes_past,
 };
-pub use run::run_plain;
+pub use run::{finish_packet, run_plain};

@@ -1,34 +1,43 @@
 // Programs over a packet's bytes.
 
-ghost use Rattle.std.specs.Prelude.{◌≡◌, ◌≤◌, true, is_some, IfSome, length, map};
+ghost use Rattle.std.specs.Prelude.{◌≡◌, ℕ, ◌≤◌, true, List, Option, is_some, IfSome, length, map};
 ghost use Rattle.trex_vars.specs.Variable.{variable_of};
+ghost use Rattle.trex_vm.specs.Effect.{first_trim};
+ghost use Rattle.trex_stamp.specs.declared.header.Stamp.{Stamp as AStamp};
+ghost use Rattle.trex_vm.specs.Packet.{packet, trimmed, version_of};
 ghost use Rattle.trex_vm.specs.Rules.{accepts};
-ghost use Rattle.trex_vm.specs.Program.{AreOperandsOf, AreSound, IsProgram, program_view};
+ghost use Rattle.trex_vm.specs.Program.{AreOperandsOf, AreSound, AreValuesOf, IsProgram, IsTemplateOf, program_view};
 
-use crate::instr::Instr;
+use crate::instr::{Instr, Operand};
 use crate::rules::{accepts, least_length};
+use crate::write::number_in;
 use std::marker::Model;
 use trex_layers::{LONGEST_PACKET, SHORTEST_PACKET};
 use trex_stamp::Version;
-use trex_vars::VarSpec;
+use trex_vars::{VarSpec, VarValue};
 
 /// The instructions of a stream, checked once against its variables and its template.
 #[derive(Drop)]
 pub struct Program {
     instrs: Vec<Instr>,
+    // the operand of the trim, if there is one
+    trim: Option<Operand>,
     template: usize,
     least: usize,
     stamp: Option<Version>,
 }
 
 impl Model for Program {
+    ghost use Rattle.std.specs.Prelude.{◌≡◌};
+    ghost use Rattle.trex_vm.specs.Effect.{first_trim};
     ghost use Rattle.trex_vm.specs.Program.{ProgramView, IsProgram};
 
     ghost Value = { ProgramView };
 
     ghost view = { λ p. record { instrs = p.instrs.items; template = p.template; least = p.least; stamp = p.stamp } };
 
-    ghost invariant = { λ p. IsProgram (record { instrs = p.instrs.items; template = p.template; least = p.least; stamp = p.stamp }) };
+    ghost invariant = { λ p. IsProgram (record { instrs = p.instrs.items; template = p.template; least = p.least; stamp = p.stamp })
+        × (p.trim ≡ first_trim p.instrs.items) };
 }
 
 impl Program {
@@ -72,11 +81,28 @@ impl Program {
         ensures { result ≡ program_view instrs.items (map variable_of vars.now) template.now stamp }
     {
         let least = least_length(vars, &instrs, template.len());
+        let trim = trim_in(&instrs);
         Program {
             instrs,
+            trim,
             template: template.len(),
             least,
             stamp,
+        }
+    }
+
+    /// The length in bytes of the packet of some values: the number of the trim, or the whole template's length where there is none.
+    pub fn packet_length(&self, values: &[VarValue]) -> usize
+        requires { AreValuesOf self.now values.now }
+        ensures value { result ≡ trimmed values.now self.now.instrs self.now.template }
+        ensures within { result ≤ self.now.template }
+        ensures sound { IsProgram self.now }
+        ensures packet { (stamp : Option AStamp) (template : List ℕ) → IsTemplateOf self.now template → version_of stamp ≡ self.now.stamp
+            → length (packet self.now.instrs values.now stamp template) ≡ result }
+    {
+        match self.trim {
+            Some(from) => number_in(values, from) as usize,
+            None => self.template,
         }
     }
 
@@ -87,4 +113,16 @@ impl Program {
     {
         &self.instrs
     }
+}
+
+/// The operand of the first trim, if there is one.
+fn trim_in(instrs: &[Instr]) -> Option<Operand>
+    ensures { result ≡ first_trim instrs.now }
+{
+    for instr in instrs {
+        if let Some(from) = instr.trim_of() {
+            return Some(from);
+        }
+    }
+    None
 }

@@ -5,17 +5,17 @@ ghost use Rattle.std.specs.List.{list_any};
 ghost use Rattle.std.specs.Option.{ForSome};
 ghost use Rattle.trex_stamp.specs.Stamp.{IsStamp};
 ghost use Rattle.trex_vm.specs.Fix.{fixed};
-ghost use Rattle.trex_vm.specs.Packet.{after, after_all, trimmed, version_of, stamped, packet};
+ghost use Rattle.trex_vm.specs.Packet.{after, after_all, version_of, stamped, packet};
 ghost use Rattle.trex_vm.specs.declared.instr.Instr.{Instr as AnInstr};
 ghost use Rattle.trex_vm.specs.Cover.{StaysFixed, HeaderVerifies};
 ghost use Rattle.trex_vm.specs.Rules.{header_size, writes_past, finds_header, misses_header, overwrites_header_kind};
-ghost use Rattle.trex_vm.specs.Program.{TakesFrom, IsFormed, IsTemplateOf, AreValuesOf};
+ghost use Rattle.trex_vm.specs.Program.{TakesFrom, IsFormed, IsFrontOf, IsTemplateOf, AreValuesOf};
 
 use crate::effect::Fix;
 use crate::fix::{fix_ipv4, fix_segment};
 use crate::instr::Instr;
 use crate::program::Program;
-use crate::write::{number_in, shift_by, sum_in, write_masked, write_number};
+use crate::write::{shift_by, sum_in, write_masked, write_number};
 use trex_stamp::{Stamp, write_stamp};
 use trex_vars::VarValue;
 
@@ -45,23 +45,24 @@ pub fn run_plain(
         → StaysFixed fix later (take result out.new)
         → HeaderVerifies fix (take result out.new) }
 {
-    let instrs = program.instrs();
-    let len = packet_length(instrs, values, template.len());
-    make_packet(instrs, &template[..len], values, stamp, &mut out[..len]);
+    let len = program.packet_length(values);
+    out[..len].copy_from_slice(&template[..len]);
+    finish_packet(program, values, stamp, &mut out[..len]);
     len
 }
 
-/// The packet's length in bytes: the number of the trim, or the whole template's length where there is none.
-fn packet_length(instrs: &[Instr], values: &[VarValue], whole: usize) -> usize
-    requires { All (TakesFrom (length values.now)) instrs.now }
-    ensures { result ≡ trimmed values.now instrs.now whole }
+/// Makes a packet in place of the front of its template, which is as long as the packet: writes the latency header in place of the last bytes,
+/// where there is one, and applies the program's other instructions in order.
+pub fn finish_packet(program: &Program, values: &[VarValue], stamp: Option<Stamp>, bytes: &mut [u8])
+    requires front { IsFrontOf program.now values.now bytes.old }
+    requires values { AreValuesOf program.now values.now }
+    requires stamp { version_of stamp ≡ program.now.stamp }
+    requires fits { ForSome stamp IsStamp }
+    ensures { bytes.new ≡ after_all values.now program.now.instrs (stamped stamp bytes.old) }
 {
-    for instr in instrs {
-        if let Some(from) = instr.trim_of() {
-            return number_in(values, from) as usize;
-        }
-    }
-    whole
+    let instrs = program.instrs();
+    write_header(stamp, bytes);
+    apply_all(instrs, values, bytes);
 }
 
 /// Writes the checksum of a fix.
@@ -126,37 +127,13 @@ fn apply_all(instrs: &[Instr], values: &[VarValue], bytes: &mut [u8])
     }
 }
 
-/// Writes the packet as it is before its instructions.
-fn write_front(template: &[u8], stamp: Option<Stamp>, bytes: &mut [u8])
-    requires long { length bytes.old ≡ length template.now }
-    requires stamp { header_size (version_of stamp) ≤ length template.now }
+/// Writes the latency header, if there is one, in place of the last bytes.
+fn write_header(stamp: Option<Stamp>, bytes: &mut [u8])
+    requires stamp { header_size (version_of stamp) ≤ length bytes.old }
     requires fits { ForSome stamp IsStamp }
-    ensures { bytes.new ≡ stamped stamp template.now }
+    ensures { bytes.new ≡ stamped stamp bytes.old }
 {
-    bytes.copy_from_slice(template);
     if let Some(stamp) = stamp {
         write_stamp(&stamp, bytes);
     }
-}
-
-/// Makes the packet of a template that is cut already.
-fn make_packet(
-    instrs: &[Instr],
-    template: &[u8],
-    values: &[VarValue],
-    stamp: Option<Stamp>,
-    bytes: &mut [u8],
-)
-    requires long { length bytes.old ≡ length template.now }
-    requires stamp { header_size (version_of stamp) ≤ length template.now }
-    requires fits { ForSome stamp IsStamp }
-    requires operands { All (TakesFrom (length values.now)) instrs.now }
-    requires formed { All IsFormed instrs.now }
-    requires places { list_any (writes_past (length template.now)) instrs.now ≡ false }
-    requires headers { list_any (misses_header (stamped stamp template.now) (length template.now)) instrs.now ≡ false }
-    requires kinds { list_any (overwrites_header_kind instrs.now) instrs.now ≡ false }
-    ensures { bytes.new ≡ after_all values.now instrs.now (stamped stamp template.now) }
-{
-    write_front(template, stamp, bytes);
-    apply_all(instrs, values, bytes);
 }

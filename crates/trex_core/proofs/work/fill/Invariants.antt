@@ -9,11 +9,12 @@ abbrev pub invariant-packets : goal.invariant-packets
 invariant-packets l =
     let frame = frame_at l.fn.maker.profile l.fn.maker.base in
     record {
+      base : l.batch.base ≡ l.fn.batch.base;
       maker : l.maker ≡ l.fn.maker;
-      stem : l.batch ++ map frame l.walks ≡ l.fn.batch ++ map frame l.fn.walks;
-      more : length l.fn.batch ≤ length l.batch;
-      within : IsWithin l.batch;
-      made : AllByRecursion IsMade l.batch;
+      stem : l.batch.waiting ++ map frame l.walks ≡ l.fn.batch.waiting ++ map frame l.fn.walks;
+      more : length l.fn.batch.waiting ≤ length l.batch.waiting;
+      within : IsWithin l.batch.waiting;
+      made : AllByRecursion IsMade l.batch.waiting;
       slots : AllByRecursion (IsSlotOf l.fn.maker.profile) l.walks;
     }
 

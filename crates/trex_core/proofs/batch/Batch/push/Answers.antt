@@ -1,58 +1,21 @@
-use Rattle.std.proofs.Common.{◌≡◌, ◌+◌, List, drop, length, length-drop, length-append, ◌∙◌, ap, arith, true, [], ◌∷◌, ◌++◌, rules}
-use Rattle.std.proofs.lemmas.List.Sums.{sum_by_push}
-use Rattle.trex_core.specs.Batches.{has_room_for}
+use Rattle.std.proofs.Common.{◌≡◌, ◌+◌, ◌*◌, ◌^◌, ◌<◌, ◌≤◌, ℕ, List, drop, length, length-drop, ◌∙◌, sym, ap, subst, arith, true, [], ◌∷◌, ◌++◌, rules}
+use Rattle.trex_pcap.specs.Writing.{record_of}
+use Rattle.trex_merge.specs.declared.key.Key.{Key}
 use Rattle.trex_merge.specs.Frames.{Frame}
-use Rattle.trex_core.specs.Records.{AreBatch, frame_with, frames_of, length_of}
-use Rattle.trex_core.specs.declared.record.Record.{Record}
-use Rattle.trex_core.proofs.Records.{room, frames_of-push}
+use Rattle.trex_core.specs.declared.batch.TheConstants.{BATCH_PACKETS, BATCH_BYTES, RECORD_HEADER}
+use Rattle.trex_core.specs.declared.waiting.Waiting.{Waiting}
+use Rattle.trex_core.specs.Batches.{bytes_of, has_room_for}
+use Rattle.trex_core.specs.Records.{AreBatch, BatchView, frame_with, frames_of, waiting_of}
+use Rattle.trex_core.specs.Texts.{packet_at}
+use Rattle.trex_core.proofs.Records.{batch_long, batch_more, room}
 use Rattle.trex_core.proofs.batch.Batch.push.Goals as goal
 
-pub unwrap-requires : goal.unwrap-requires
-unwrap-requires c =
-    let i = c.self.inside in
-    let has : has_room_for (frames_of (drop i.taken i.records.items) (drop i.from i.bytes.items)) (length c.args.bytes.now) ≡ true = cc in
-    let e = room (drop i.taken i.records.items) (drop i.from i.bytes.items) (length c.args.bytes.now) c.self.invariant.0.same has in
-    let short = e.0 in
-    let long = length-drop i.taken i.records.items in
-    c.push.ensures.succeeds (omega (arith, short, long))
-
-pub unwrap-requires-2 : goal.unwrap-requires-2
-unwrap-requires-2 c =
-    let i = c.self.inside in
-    let has : has_room_for (frames_of (drop i.taken i.records.items) (drop i.from i.bytes.items)) (length c.args.bytes.now) ≡ true = cc in
-    let e = room (drop i.taken i.records.items) (drop i.from i.bytes.items) (length c.args.bytes.now) c.self.invariant.0.same has in
-    let fits = e.1 in
-    let long = length-drop i.from i.bytes.items in
-    c.extend_from_slice.ensures.succeeds (omega (arith, fits, long))
-
-pub invariant_of-self : goal.invariant_of-self
-invariant_of-self c =
-    let i = c.self.inside in
-    let rs = drop i.taken i.records.items in
-    let bs = drop i.from i.bytes.items in
-    let new : Record = record { key = c.args.key; length = length c.args.bytes.now } in
-    let has : has_room_for (frames_of rs bs) (length c.args.bytes.now) ≡ true = cc in
-    let e = room rs bs (length c.args.bytes.now) c.self.invariant.0.same has in
-    let short = e.0 in
-    let fits = e.1 in
-    let p : c.push.new.self.items ≡ rs ++ new ∷ [] = search rules in
-    let q : c.extend_from_slice.new.self.items ≡ bs ++ c.args.bytes.now = search rules in
-    let was = c.self.invariant.0.same in
-    let sums : length_of (rs ++ new ∷ []) ≡ length_of rs + length c.args.bytes.now = sum_by_push (λ (r : Record). r.length) rs new in
-    let longer : length (bs ++ c.args.bytes.now) ≡ length bs + length c.args.bytes.now = length-append bs c.args.bytes.now in
-    let more : length (rs ++ new ∷ []) ≡ length rs + 1 = length-append rs (new ∷ []) in
-    let kept : AreBatch (rs ++ new ∷ []) (bs ++ c.args.bytes.now) =
-    record { same = omega (arith, was, sums, longer); packets = omega (arith, short, more); fits = omega (arith, fits, longer) } in
-    (rw (p, q) kept, omega arith, omega arith, omega arith, omega arith)
-
-pub returns : goal.returns
-returns c =
-    let i = c.self.inside in
-    let rs = drop i.taken i.records.items in
-    let bs = drop i.from i.bytes.items in
-    let new : Record = record { key = c.args.key; length = length c.args.bytes.now } in
-    let p : c.push.new.self.items ≡ rs ++ new ∷ [] = search rules in
-    let q : c.extend_from_slice.new.self.items ≡ bs ++ c.args.bytes.now = search rules in
-    let e = frames_of-push rs bs c.args.key c.args.bytes.now c.self.invariant.0.same in
-    let all : frames_of c.push.new.self.items c.extend_from_slice.new.self.items ≡ frames_of rs bs ++ frame_with c.args.key c.args.bytes.now ∷ [] = rw (p, q) e in
-    all ∙ ap (λ (xs : List Frame). xs ++ frame_with c.args.key c.args.bytes.now ∷ []) c.self.view_is
+-- what a batch with room for a packet has: fewer packets than it may, and a text that is no longer than so
+has_room : (base : ℕ) (ws : List Waiting) (text : List ℕ) (old : BatchView) (count : ℕ) → AreBatch base ws text
+    → (let v : BatchView = record { base = base; waiting = frames_of ws text } in v) ≡ old → has_room_for old.waiting count ≡ true
+    → (has_room_for (frames_of ws text) count ≡ true) × (length ws < BATCH_PACKETS) × (length text + (RECORD_HEADER + count) ≤ BATCH_BYTES + RECORD_HEADER * BATCH_PACKETS) × (count ≤ BATCH_BYTES)
+has_room base ws text old count batch is has =
+    let here : has_room_for (frames_of ws text) count ≡ true = ap (λ (v : BatchView). has_room_for v.waiting count) is ∙ has in
+    let left = room (frames_of ws text) count here in
+    let long = batch_long base ws text batch in
+    (here, omega (arith, left.0, long.0), omega (arith, left.0, left.1, long.0, long.1), omega (arith, left.1))

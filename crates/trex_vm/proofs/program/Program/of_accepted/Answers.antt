@@ -1,6 +1,7 @@
 use Rattle.std.proofs.Common.{◌≡◌, ℕ, List, length, map, sym, ap, subst, ◌∙◌}
 use Rattle.trex_vars.specs.Variable.{variable_of}
 use Rattle.trex_vm.specs.declared.instr.Instr.{Instr}
+use Rattle.trex_vm.specs.Effect.{first_trim}
 use Rattle.trex_vm.specs.Rules.{least_length}
 use Rattle.trex_vm.specs.Program.{IsProgram}
 use Rattle.trex_vm.proofs.ProgramLemmas.{accepted-program, accepts-tells, least_length-within}
@@ -17,6 +18,8 @@ invariant_of-result c =
     let known = accepts-tells vars template stamp instrs accepted in
     let within = least_length-within vars instrs (length template) c.requires.sound c.requires.operands.operands known.cuts in
     let least : c.least_length-least.result ≡ shortest = c.least_length-least.ensures ∙ ap (λ (xs : List Instr). least_length vars xs (length template)) c.deref.ensures.value in
-    let Holds : ℕ → Type 0 = λ n. IsProgram (record { instrs = instrs; template = length template; least = n; stamp = stamp }) in
-    subst Holds (sym least)
-    (accepted-program instrs vars template stamp c.requires.long c.requires.short c.requires.operands.formed within known)
+    let Holds : ℕ → Type 0 = λ n. IsProgram (record { instrs = instrs; template = length template; least = n; stamp = stamp }) in (
+      subst Holds (sym least)
+          (accepted-program instrs vars template stamp c.requires.long c.requires.short c.requires.operands.formed within known),
+      c.trim_in-trim.ensures ∙ ap first_trim c.deref-2.ensures.value,
+    )

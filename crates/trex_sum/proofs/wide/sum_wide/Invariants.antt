@@ -1,9 +1,9 @@
 use Rattle.std.proofs.Common.{length}
-use Rattle.trex_sum.proofs.SumLemmas.{SumsSoFar}
-use Rattle.trex_sum.proofs.sums.sum_each_word.Given as goal
+use Rattle.trex_sum.proofs.WideLemmas.{WideSoFar}
+use Rattle.trex_sum.proofs.wide.sum_wide.Given as goal
 
 abbrev pub invariant-loop-rest : goal.invariant-loop-rest
-invariant-loop-rest l = SumsSoFar l.total l.rest l.bytes
+invariant-loop-rest l = WideSoFar l.total l.rest l.bytes
 
 abbrev pub decreases-loop-rest : goal.decreases-loop-rest
 decreases-loop-rest l = length l.rest

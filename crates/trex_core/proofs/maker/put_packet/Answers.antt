@@ -6,10 +6,10 @@ use Rattle.trex_core.specs.Registers.{Standing, values_by}
 use Rattle.trex_core.proofs.Making.{row_is, rows_long, some_is}
 use Rattle.trex_profile.specs.Packets.{values_of}
 use Rattle.trex_profile.specs.Stream.{Stream}
-use Rattle.trex_core.proofs.maker.make_packet.Goals as goal
+use Rattle.trex_core.proofs.maker.put_packet.Goals as goal
 
-pub write_packet-requires-clause-values : goal.write_packet-requires-clause-values
-write_packet-requires-clause-values c =
+pub put_values-requires-clause-values : goal.put_values-requires-clause-values
+put_values-requires-clause-values c =
     let p = c.args.plan.now.profile in
     let slot = c.args.slot.now in
     let rows = c.args.registers.now in

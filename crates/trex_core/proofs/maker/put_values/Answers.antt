@@ -1,0 +1,177 @@
+use Rattle.std.proofs.Common.{◌≡◌, ◌≤◌, ◌∙◌, IfSome, List, Option, length, option_map, slice_get, take, sym, ap, subst, arith, true, false, ℕ}
+use Rattle.std.proofs.lemmas.List.{length-take-le}
+use Rattle.trex_core.specs.Batches.{has_room_for}
+use Rattle.trex_core.specs.Plan.{frame_at, packet_bytes}
+use Rattle.trex_core.specs.Records.{frame_with, with_frame}
+use Rattle.trex_core.proofs.Making.{Made, made_is, at_stream, some_is}
+use Rattle.trex_merge.specs.declared.key.Key.{Key}
+use Rattle.trex_sched.specs.Entries.{key_of}
+use Rattle.trex_profile.specs.declared.flow.Flow.{Flow}
+use Rattle.trex_profile.specs.Flow.{IsFlow}
+use Rattle.trex_profile.specs.Packets.{values_of}
+use Rattle.trex_profile.specs.Spec.{IsSpecOf}
+use Rattle.trex_vm.specs.Packet.{after_all, stamped}
+use Rattle.trex_vm.specs.Program.{AreValuesOf}
+use Rattle.trex_core.proofs.maker.put_values.Goals as goal
+
+pub packet_length-length-requires : goal.packet_length-length-requires
+packet_length-length-requires c =
+    let p = c.args.plan.now.profile in
+    let slot = c.args.slot.now in
+    let spec = c.stream-spec.result.now in
+    let s = some_is (slice_get p slot.stream) (λ s. IsSpecOf s spec) c.stream-spec.ensures in
+    let read = at_stream p slot.stream s.0 (λ s. c.args.values.now ≡ values_of s slot.number slot.in_run) s.1 c.requires.values in
+    subst (AreValuesOf spec.program) (sym read) (s.2.values slot.number slot.in_run)
+
+pub stamp_of-stamp-requires : goal.stamp_of-stamp-requires
+stamp_of-stamp-requires c flow there =
+    let spec = c.stream-spec.result.now in
+    let s = some_is (slice_get c.args.plan.now.profile c.args.slot.now.stream) (λ s. IsSpecOf s spec) c.stream-spec.ensures in
+    subst (λ (o : Option Flow). IfSome o IsFlow) (sym s.2.flow ∙ there) s.2.flows
+
+pub push-requires-clause-front : goal.push-requires-clause-front
+push-requires-clause-front c =
+    let p = c.args.plan.now.profile in
+    let base = c.args.plan.now.base in
+    let slot = c.args.slot.now in
+    let spec = c.stream-spec.result.now in
+    let values = c.args.values.now in
+    let stamp = c.stamp_of-stamp.result in
+    let n = c.packet_length-length.result in
+    let s = some_is (slice_get p slot.stream) (λ s. IsSpecOf s spec) c.stream-spec.ensures in
+    let read = at_stream p slot.stream s.0 (λ s. values ≡ values_of s slot.number slot.in_run) s.1 c.requires.values in
+    let found = c.packet_length-length.ensures in
+    let made : Made p base slot spec values stamp n =
+    made_is p base slot s.0 spec values stamp n c.time_of.result s.1 s.2 read c.time_of.ensures c.stamp_of-stamp.ensures.value found.value found.within found.sound found.packet in
+    made.front
+
+pub push-requires-clause-values : goal.push-requires-clause-values
+push-requires-clause-values c =
+    let p = c.args.plan.now.profile in
+    let base = c.args.plan.now.base in
+    let slot = c.args.slot.now in
+    let spec = c.stream-spec.result.now in
+    let values = c.args.values.now in
+    let stamp = c.stamp_of-stamp.result in
+    let n = c.packet_length-length.result in
+    let s = some_is (slice_get p slot.stream) (λ s. IsSpecOf s spec) c.stream-spec.ensures in
+    let read = at_stream p slot.stream s.0 (λ s. values ≡ values_of s slot.number slot.in_run) s.1 c.requires.values in
+    let found = c.packet_length-length.ensures in
+    let made : Made p base slot spec values stamp n =
+    made_is p base slot s.0 spec values stamp n c.time_of.result s.1 s.2 read c.time_of.ensures c.stamp_of-stamp.ensures.value found.value found.within found.sound found.packet in
+    made.valued
+
+pub push-requires-clause-stamp : goal.push-requires-clause-stamp
+push-requires-clause-stamp c =
+    let p = c.args.plan.now.profile in
+    let base = c.args.plan.now.base in
+    let slot = c.args.slot.now in
+    let spec = c.stream-spec.result.now in
+    let values = c.args.values.now in
+    let stamp = c.stamp_of-stamp.result in
+    let n = c.packet_length-length.result in
+    let s = some_is (slice_get p slot.stream) (λ s. IsSpecOf s spec) c.stream-spec.ensures in
+    let read = at_stream p slot.stream s.0 (λ s. values ≡ values_of s slot.number slot.in_run) s.1 c.requires.values in
+    let found = c.packet_length-length.ensures in
+    let made : Made p base slot spec values stamp n =
+    made_is p base slot s.0 spec values stamp n c.time_of.result s.1 s.2 read c.time_of.ensures c.stamp_of-stamp.ensures.value found.value found.within found.sound found.packet in
+    made.stamps
+
+pub push-requires-clause-room : goal.push-requires-clause-room
+push-requires-clause-room c =
+    let p = c.args.plan.now.profile in
+    let base = c.args.plan.now.base in
+    let slot = c.args.slot.now in
+    let spec = c.stream-spec.result.now in
+    let values = c.args.values.now in
+    let stamp = c.stamp_of-stamp.result in
+    let n = c.packet_length-length.result in
+    let s = some_is (slice_get p slot.stream) (λ s. IsSpecOf s spec) c.stream-spec.ensures in
+    let read = at_stream p slot.stream s.0 (λ s. values ≡ values_of s slot.number slot.in_run) s.1 c.requires.values in
+    let found = c.packet_length-length.ensures in
+    let made : Made p base slot spec values stamp n =
+    made_is p base slot s.0 spec values stamp n c.time_of.result s.1 s.2 read c.time_of.ensures c.stamp_of-stamp.ensures.value found.value found.within found.sound found.packet in
+    ap (has_room_for c.args.batch.now.waiting) (length-take-le n spec.template.items made.within) ∙ sym c.has_room_for.ensures.value ∙ c.if-not-has_room_for.false
+
+pub returns-then-not-has_room_for-clause-room : goal.returns-then-not-has_room_for-clause-room
+returns-then-not-has_room_for-clause-room c =
+    let p = c.args.plan.now.profile in
+    let base = c.args.plan.now.base in
+    let slot = c.args.slot.now in
+    let spec = c.stream-spec.result.now in
+    let values = c.args.values.now in
+    let stamp = c.stamp_of-stamp.result in
+    let n = c.packet_length-length.result in
+    let s = some_is (slice_get p slot.stream) (λ s. IsSpecOf s spec) c.stream-spec.ensures in
+    let read = at_stream p slot.stream s.0 (λ s. values ≡ values_of s slot.number slot.in_run) s.1 c.requires.values in
+    let found = c.packet_length-length.ensures in
+    let made : Made p base slot spec values stamp n =
+    made_is p base slot s.0 spec values stamp n c.time_of.result s.1 s.2 read c.time_of.ensures c.stamp_of-stamp.ensures.value found.value found.within found.sound found.packet in
+    sym c.if-not-has_room_for.true ∙ c.has_room_for.ensures.value ∙ ap (has_room_for c.args.batch.now.waiting) (sym made.long)
+
+pub returns-then-not-has_room_for-clause-short : goal.returns-then-not-has_room_for-clause-short
+returns-then-not-has_room_for-clause-short c =
+    let p = c.args.plan.now.profile in
+    let base = c.args.plan.now.base in
+    let slot = c.args.slot.now in
+    let spec = c.stream-spec.result.now in
+    let values = c.args.values.now in
+    let stamp = c.stamp_of-stamp.result in
+    let n = c.packet_length-length.result in
+    let s = some_is (slice_get p slot.stream) (λ s. IsSpecOf s spec) c.stream-spec.ensures in
+    let read = at_stream p slot.stream s.0 (λ s. values ≡ values_of s slot.number slot.in_run) s.1 c.requires.values in
+    let found = c.packet_length-length.ensures in
+    let made : Made p base slot spec values stamp n =
+    made_is p base slot s.0 spec values stamp n c.time_of.result s.1 s.2 read c.time_of.ensures c.stamp_of-stamp.ensures.value found.value found.within found.sound found.packet in
+    made.short
+
+pub returns-clause-room : goal.returns-clause-room
+returns-clause-room c =
+    let p = c.args.plan.now.profile in
+    let base = c.args.plan.now.base in
+    let slot = c.args.slot.now in
+    let spec = c.stream-spec.result.now in
+    let values = c.args.values.now in
+    let stamp = c.stamp_of-stamp.result in
+    let n = c.packet_length-length.result in
+    let s = some_is (slice_get p slot.stream) (λ s. IsSpecOf s spec) c.stream-spec.ensures in
+    let read = at_stream p slot.stream s.0 (λ s. values ≡ values_of s slot.number slot.in_run) s.1 c.requires.values in
+    let found = c.packet_length-length.ensures in
+    let made : Made p base slot spec values stamp n =
+    made_is p base slot s.0 spec values stamp n c.time_of.result s.1 s.2 read c.time_of.ensures c.stamp_of-stamp.ensures.value found.value found.within found.sound found.packet in
+    sym c.if-not-has_room_for.false ∙ c.has_room_for.ensures.value ∙ ap (has_room_for c.args.batch.now.waiting) (sym made.long)
+
+pub returns-clause-short : goal.returns-clause-short
+returns-clause-short c =
+    let p = c.args.plan.now.profile in
+    let base = c.args.plan.now.base in
+    let slot = c.args.slot.now in
+    let spec = c.stream-spec.result.now in
+    let values = c.args.values.now in
+    let stamp = c.stamp_of-stamp.result in
+    let n = c.packet_length-length.result in
+    let s = some_is (slice_get p slot.stream) (λ s. IsSpecOf s spec) c.stream-spec.ensures in
+    let read = at_stream p slot.stream s.0 (λ s. values ≡ values_of s slot.number slot.in_run) s.1 c.requires.values in
+    let found = c.packet_length-length.ensures in
+    let made : Made p base slot spec values stamp n =
+    made_is p base slot s.0 spec values stamp n c.time_of.result s.1 s.2 read c.time_of.ensures c.stamp_of-stamp.ensures.value found.value found.within found.sound found.packet in
+    made.short
+
+pub returns-clause-added : goal.returns-clause-added
+returns-clause-added c =
+    let p = c.args.plan.now.profile in
+    let base = c.args.plan.now.base in
+    let slot = c.args.slot.now in
+    let spec = c.stream-spec.result.now in
+    let values = c.args.values.now in
+    let stamp = c.stamp_of-stamp.result in
+    let n = c.packet_length-length.result in
+    let s = some_is (slice_get p slot.stream) (λ s. IsSpecOf s spec) c.stream-spec.ensures in
+    let read = at_stream p slot.stream s.0 (λ s. values ≡ values_of s slot.number slot.in_run) s.1 c.requires.values in
+    let found = c.packet_length-length.ensures in
+    let made : Made p base slot spec values stamp n =
+    made_is p base slot s.0 spec values stamp n c.time_of.result s.1 s.2 read c.time_of.ensures c.stamp_of-stamp.ensures.value found.value found.within found.sound found.packet in
+    let old = c.args.batch.now in
+    λ yes. c.push.ensures
+    ∙ ap (λ (k : Key). with_frame (frame_with k (after_all values spec.program.instrs (stamped stamp (take n spec.template.items)))) old) c.key.ensures
+    ∙ ap (λ (bytes : List ℕ). with_frame (frame_with (key_of slot) bytes) old) made.is
