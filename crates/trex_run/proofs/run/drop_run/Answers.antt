@@ -10,12 +10,12 @@ use Rattle.trex_run.proofs.PassLemmas.{base_there, waiting_there}
 use Rattle.trex_run.proofs.run.drop_run.Goals as goal
 
 pub drop_run-requires-clause-packets : goal.drop_run-requires-clause-packets
-drop_run-requires-clause-packets c = λ lifetimes.
+drop_run-requires-clause-packets c =
     let there = waiting_there c.args.works.now c.args.feed c.index-works-feed.result c.requires.within c.index-works-feed.is in
     subst (λ (l : List Frame). c.args.packets ≤ length l) there c.requires.packets
 
 pub drop_run-requires-clause-bytes : goal.drop_run-requires-clause-bytes
-drop_run-requires-clause-bytes c = λ lifetimes.
+drop_run-requires-clause-bytes c =
     let there = waiting_there c.args.works.now c.args.feed c.index-works-feed.result c.requires.within c.index-works-feed.is in
     let base = base_there c.args.works.now c.args.feed c.index-works-feed.result c.requires.within c.index-works-feed.is in
     c.requires.bytes ∙ ap (λ n. length (records_text n (take c.args.packets _))) base
