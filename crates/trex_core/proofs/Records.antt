@@ -1,17 +1,20 @@
 -- The packets of a batch, and their records.
-use Rattle.std.proofs.Common.{◌≡◌, ℕ, zero, suc, ◌+◌, ◌*◌, ◌-◌, ◌≤◌, ◌<◌, ◌&&◌, nat_lt, nat_le, true, List, [], ◌∷◌, ◌++◌, length, map, take, drop, eqb, refl, sym, ap, ◌∙◌, subst, append_assoc, length-append, length-drop, arith}
+use Rattle.std.proofs.Common.{◌≡◌, ℕ, zero, suc, ◌+◌, ◌*◌, ◌-◌, ◌≤◌, ◌<◌, ◌&&◌, nat_lt, nat_le, true, List, [], ◌∷◌, ◌++◌, length, map, take, drop, eqb, get_or, slice_get, Some, refl, sym, ap, ◌∙◌, subst, append_assoc, take_all, length-append, length-drop, arith}
+use Rattle.std.proofs.Math.Seq.{drop-cons}
 use Rattle.std.specs.List.{AllByRecursion, flat_map}
 use Rattle.std.proofs.lemmas.Bool.Decides.{nat_tests}
 use Rattle.std.proofs.lemmas.Grind.{flat_map-append}
 use Rattle.std.proofs.lemmas.List.{append-nil, drop_at, drop-drop, drop-map, length-map, map-append, take_at, take-append-drop, take-map}
 use Rattle.std.proofs.lemmas.List.Sums.{sum_by-append, sum_by-cons}
 use Rattle.trex_pcap.specs.Writing.{Packet, record_header_of, record_of}
-use Rattle.trex_merge.specs.Frames.{Frame}
+use Rattle.std.specs.Option.{option_map}
+use Rattle.trex_merge.specs.declared.key.Key.{Key}
+use Rattle.trex_merge.specs.Frames.{Frame, key_of}
 use Rattle.trex_merge.specs.Queues.{is_none_left}
 use Rattle.trex_core.specs.declared.batch.TheConstants.{BATCH_PACKETS, BATCH_BYTES, RECORD_HEADER}
 use Rattle.trex_core.specs.declared.waiting.Waiting.{Waiting}
 use Rattle.trex_core.specs.Batches.{IsWithin, bytes_of, has_room_for}
-use Rattle.trex_core.specs.Records.{AreBatch, frames_of, text_length, waiting_of}
+use Rattle.trex_core.specs.Records.{AreBatch, frame_with, frames_of, text_length, waiting_of}
 use Rattle.trex_core.specs.Texts.{packet_at, records_text}
 
 -- the header of a record has as many bytes as that of every other
@@ -196,3 +199,36 @@ pub all_drop : (P : Frame → Type 0) (n : ℕ) (fs : List Frame) → AllByRecur
 all_drop P zero fs all = all
 all_drop P (suc n) [] all = tt
 all_drop P (suc n) (f ∷ fs) all = all_drop P n fs all.1
+
+-- the first packet of a batch: its record lies within the text, and its bytes stand behind the record's header
+pub head_is : (base taken from : ℕ) (packets : List Waiting) (text : List ℕ) (w : Waiting) → AreBatch base (drop taken packets) (drop from text)
+    → taken < length packets → from ≤ length text → w ≡ get_or packets taken w
+    → (from + (RECORD_HEADER + w.length) ≤ length text)
+    × (slice_get (frames_of (drop taken packets) (drop from text)) 0 ≡ Some (frame_with w.key (take w.length (drop (from + RECORD_HEADER) text))))
+head_is base taken from packets text w batch within short is =
+    let first : drop taken packets ≡ w ∷ drop (suc taken) packets = drop-cons packets taken w within ∙ ap (λ (x : Waiting). x ∷ drop (suc taken) packets) (sym is) in
+    let one : text_length (w ∷ []) ≡ RECORD_HEADER + w.length = omega arith in
+    let passed : RECORD_HEADER + w.length ≡ text_length (take 1 (drop taken packets)) = sym one ∙ ap (λ (v : List Waiting). text_length (take 1 v)) (sym first) in
+    let front = first_records_of base 1 (drop taken packets) (drop from text) batch in (
+      omega (arith, passed, front.1, length-drop from text),
+      ap (λ (v : List Waiting). slice_get (frames_of v (drop from text)) 0) first
+          ∙ ap (λ (bs : List ℕ). Some (frame_with w.key (take w.length bs))) (drop-drop RECORD_HEADER from text),
+    )
+
+-- where a first packet has a key there is one
+pub some_first : (fs : List Frame) (key : Key) → Some key ≡ option_map key_of (slice_get fs 0) → 0 < length fs
+some_first [] key is = absurd (cc)
+some_first (f ∷ fs) key is = omega arith
+
+-- its key and its bytes are all of it
+pub first_of : (fs : List Frame) (key : Key) (bytes : List ℕ) → Some key ≡ option_map key_of (slice_get fs 0) → Some bytes ≡ option_map (λ f. f.bytes) (slice_get fs 0)
+    → Some (frame_with key bytes) ≡ slice_get fs 0
+first_of [] key bytes is shows = absurd (cc)
+first_of (f ∷ fs) key bytes is shows =
+    let same : key ≡ key_of f = cc in
+    let read : bytes ≡ f.bytes = cc in
+    ap (λ (k : Key). Some (frame_with k bytes)) same ∙ ap (λ (bs : List ℕ). Some (frame_with (key_of f) bs)) read
+
+-- what stands behind the first ones of a list that is another
+pub rest_is : {X : Type 0} (xs ys : List X) (n : ℕ) → xs ≡ ys → take (length xs - n) (drop n xs) ≡ drop n ys
+rest_is xs ys n same = take_all (length xs - n) (drop n xs) (omega (arith, length-drop n xs)) ∙ ap (drop n) same

@@ -11,14 +11,14 @@ use Rattle.trex_core.specs.Texts.{records_text}
 use Rattle.trex_core.proofs.Records.{first_records_of}
 
 -- some packet, for places where there is none
-no_frame : Frame
+abbrev pub no_frame : Frame
 no_frame = record { time = 0; stream = 0; number = 0; bytes = [] }
 
 -- what is known of the packet at a place has its key
-key_at : (frames : List Frame) (ws : List Waiting) (k : ℕ) (w : Waiting) → ws ≡ map waiting_of frames → k < length frames → w ≡ get_or ws k w
-    → w.key ≡ key_of (get_or frames k no_frame)
-key_at frames ws k w known below is =
-    ap (λ (v : Waiting). v.key) (is ∙ ap (λ (v : List Waiting). get_or v k w) known ∙ get_or-map waiting_of frames k no_frame w below)
+key_at : (frames : List Frame) (ws : List Waiting) (k : ℕ) → ws ≡ map waiting_of frames → k < length frames
+    → (get_or ws k (waiting_of no_frame)).key ≡ key_of (get_or frames k no_frame)
+key_at frames ws k known below =
+    ap (λ (w : Waiting). w.key) (ap (λ (v : List Waiting). get_or v k (waiting_of no_frame)) known ∙ get_or-map waiting_of frames k no_frame (waiting_of no_frame) below)
 
 -- where the packet at a place stands before the key, the run goes on
 run_more : (before : Option Key) (most k : ℕ) (frames : List Frame) → k < length frames → k < most → stands_before (key_of (get_or frames k no_frame)) before ≡ true
@@ -43,25 +43,27 @@ run_stops before most k frames below few stands =
     ∙ ap (λ (t : Bool). cond t (suc (run_length before (most - (k + 1)) (drop (k + 1) frames))) 0) stands
 
 -- a count of the run's packets so far, and the rest of it
-pub abbrev IsCounted : Option Key → ℕ → List Waiting → ℕ → Type 0
+abbrev pub IsCounted : Option Key → ℕ → List Waiting → ℕ → Type 0
 IsCounted before most ws k = (frames : List Frame) → ws ≡ map waiting_of frames → run_length before most frames ≡ k + run_length before (most - k) (drop k frames)
 
 pub counted_none : (before : Option Key) (most : ℕ) (ws : List Waiting) → IsCounted before most ws 0
-counted_none before most ws = λ frames known. let e : most - 0 ≡ most = omega arith in ap (λ m. run_length before m frames) (sym e)
+counted_none before most ws = λ frames known. let e : most - 0 ≡ most = omega arith in
+    let h : run_length before most frames ≡ run_length before (most - 0) (drop 0 frames) = ap (λ m. run_length before m frames) (sym e) in
+    omega (arith, h)
 
-pub counted_more : (before : Option Key) (most k : ℕ) (ws : List Waiting) (w : Waiting) → IsCounted before most ws k → k < length ws → k < most → w ≡ get_or ws k w
-    → stands_before w.key before ≡ true → IsCounted before most ws (k + 1)
-counted_more before most k ws w counted below few is stands = λ frames known.
+pub counted_more : (before : Option Key) (most k : ℕ) (ws : List Waiting) → IsCounted before most ws k → k < length ws → k < most
+    → stands_before (get_or ws k (waiting_of no_frame)).key before ≡ true → IsCounted before most ws (k + 1)
+counted_more before most k ws counted below few stands = λ frames known.
     let within : k < length frames = omega (arith, ap length known, length-map frames waiting_of) in
-    let key = key_at frames ws k w known within is in
+    let key = key_at frames ws k known within in
     let more = run_more before most k frames within few (ap (λ (x : Key). stands_before x before) (sym key) ∙ stands) in
     omega (arith, counted frames known, more)
 
-pub counted_stops : (before : Option Key) (most k : ℕ) (ws : List Waiting) (w : Waiting) → IsCounted before most ws k → k < length ws → k < most → w ≡ get_or ws k w
-    → stands_before w.key before ≡ false → (frames : List Frame) → ws ≡ map waiting_of frames → k ≡ run_length before most frames
-counted_stops before most k ws w counted below few is stands = λ frames known.
+pub counted_stops : (before : Option Key) (most k : ℕ) (ws : List Waiting) → IsCounted before most ws k → k < length ws → k < most
+    → stands_before (get_or ws k (waiting_of no_frame)).key before ≡ false → (frames : List Frame) → ws ≡ map waiting_of frames → k ≡ run_length before most frames
+counted_stops before most k ws counted below few stands = λ frames known.
     let within : k < length frames = omega (arith, ap length known, length-map frames waiting_of) in
-    let key = key_at frames ws k w known within is in
+    let key = key_at frames ws k known within in
     let none = run_stops before most k frames within few (ap (λ (x : Key). stands_before x before) (sym key) ∙ stands) in
     omega (arith, counted frames known, none)
 
@@ -93,7 +95,7 @@ take-take_within (suc n) (suc m) (x ∷ xs) short = ap (λ ys. x ∷ ys) (take-t
 -- the first packets of a batch, so many, with so many bytes of its text, are those that stand before a key
 pub record IsRun (base : ℕ) (ws : List Waiting) (text : List ℕ) (before : Option Key) (most count bytes : ℕ) : Type 0 where
   pub packets : take count (take most ws) ≡ map waiting_of (take (run_length before most (frames_of ws text)) (frames_of ws text))
-  pub text : take bytes text ≡ records_text base (take (run_length before most (frames_of ws text)) (frames_of ws text))
+  pub joined : take bytes text ≡ records_text base (take (run_length before most (frames_of ws text)) (frames_of ws text))
   pub within : bytes ≤ length text
 
 pub run_is : (base : ℕ) (ws : List Waiting) (text : List ℕ) (before : Option Key) (most count bytes : ℕ) → AreBatch base ws text
@@ -111,6 +113,6 @@ run_is base ws text before most count bytes batch counted short measured =
     let records = first_records_of base n ws text batch in
     record {
       packets = front ∙ ap (take n) batch.known ∙ take-map waiting_of n fs;
-      text = ap (λ m. take m text) size ∙ records.0;
+      joined = ap (λ m. take m text) size ∙ records.0;
       within = omega (arith, size, records.1);
     }

@@ -1,6 +1,6 @@
 // The packets that wait in a core's batch.
 
-ghost use Rattle.std.specs.Prelude.{◌≡◌, ◌+◌, ◌*◌, ◌-◌, ◌<◌, ◌≤◌, ◌^◌, ◌++◌, ◌∷◌, ◌&&◌, List, [], nat_lt, nat_le, true, IfOk, length, map, take, drop, option_map, slice_get, vec_len};
+ghost use Rattle.std.specs.Prelude.{◌≡◌, ◌+◌, ◌*◌, ◌-◌, ◌<◌, ◌≤◌, ◌^◌, ◌++◌, ◌∷◌, ◌&&◌, List, [], nat_lt, nat_le, true, Some, IfOk, length, map, take, drop, option_map, slice_get, vec_len};
 ghost use Rattle.std.specs.Option.{ForSome};
 ghost use Rattle.std.specs.Vec.{vec_capacity};
 ghost use Rattle.trex_core.specs.Batches.{IsWithin, has_room_for};
@@ -130,14 +130,23 @@ impl Batch {
     pub(crate) fn head(&self) -> Option<Head<'_>>
         ensures { option_map frame_of result ≡ slice_get self.now.waiting 0 }
     {
-        let first = self.packets.get(self.taken)?;
-        let from = self.from + RECORD_HEADER;
+        let key = self.first_key()?;
         Some(Head {
-            time: first.key.time,
-            stream: first.key.stream,
-            number: first.key.number,
-            bytes: &self.text[from..from + first.length],
+            time: key.time,
+            stream: key.stream,
+            number: key.number,
+            bytes: self.first_bytes(),
         })
+    }
+
+    /// The bytes of the first packet that waits.
+    fn first_bytes(&self) -> &[u8]
+        requires { 0 < length self.now.waiting }
+        ensures { Some result.now ≡ option_map (λ f. f.bytes) (slice_get self.now.waiting 0) }
+    {
+        let length = self.packets[self.taken].length;
+        let text = &self.text[self.from + RECORD_HEADER..];
+        &text[..length]
     }
 
     /// The key of the first packet that waits.
@@ -165,9 +174,10 @@ impl Batch {
     {
         let packets = front_of(&self.packets[self.taken..], most);
         let (count, bytes) = measure_run(packets, before);
+        let text = &self.text[self.from..];
         Run {
             packets: &packets[..count],
-            text: &self.text[self.from..self.from + bytes],
+            text: &text[..bytes],
         }
     }
 
@@ -216,7 +226,7 @@ fn add_record(
     requires fits { ForSome stamp IsStamp }
     ensures items { text.new.items ≡ text.old.items
         ++ record_of (record { time = time; bytes = after_all values.now program.now.instrs (stamped stamp front.now) }) }
-    ensures capacity { vec_capacity text.new ≡ vec_capacity text.old }
+    ensures capacity { vec_capacity text.old ≤ vec_capacity text.new }
     ensures long { length (after_all values.now program.now.instrs (stamped stamp front.now)) ≡ length front.now }
 {
     let header = record_header(time, front.len() as u32);

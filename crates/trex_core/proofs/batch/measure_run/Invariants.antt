@@ -5,7 +5,7 @@ use Rattle.trex_core.proofs.batch.measure_run.Given as goal
 
 abbrev pub invariant-loop-packet : goal.invariant-loop-packet
 invariant-loop-packet l = record {
-  counted : IsCounted l.before (length l.packets) l.packets l.count;
+  counted : IsCounted l.before (length l.packets) l.packets l.packet-index;
   count : l.count ≡ l.packet-index;
   bytes : l.bytes ≡ text_length (take l.packet-index l.packets);
 }

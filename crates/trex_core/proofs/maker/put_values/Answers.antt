@@ -11,7 +11,7 @@ use Rattle.trex_profile.specs.Flow.{IsFlow}
 use Rattle.trex_profile.specs.Packets.{values_of}
 use Rattle.trex_profile.specs.Spec.{IsSpecOf}
 use Rattle.trex_vm.specs.Packet.{after_all, stamped}
-use Rattle.trex_vm.specs.Program.{AreValuesOf}
+use Rattle.trex_vm.specs.Program.{AreValuesOf, IsFrontOf}
 use Rattle.trex_core.proofs.maker.put_values.Goals as goal
 
 pub packet_length-length-requires : goal.packet_length-length-requires
@@ -43,7 +43,7 @@ push-requires-clause-front c =
     let found = c.packet_length-length.ensures in
     let made : Made p base slot spec values stamp n =
     made_is p base slot s.0 spec values stamp n c.time_of.result s.1 s.2 read c.time_of.ensures c.stamp_of-stamp.ensures.value found.value found.within found.sound found.packet in
-    made.front
+    subst (λ (t : List ℕ). IsFrontOf spec.program values (take n t)) (sym c.deref.ensures.value) made.front
 
 pub push-requires-clause-values : goal.push-requires-clause-values
 push-requires-clause-values c =
@@ -91,7 +91,8 @@ push-requires-clause-room c =
     let found = c.packet_length-length.ensures in
     let made : Made p base slot spec values stamp n =
     made_is p base slot s.0 spec values stamp n c.time_of.result s.1 s.2 read c.time_of.ensures c.stamp_of-stamp.ensures.value found.value found.within found.sound found.packet in
-    ap (has_room_for c.args.batch.now.waiting) (length-take-le n spec.template.items made.within) ∙ sym c.has_room_for.ensures.value ∙ c.if-not-has_room_for.false
+    ap (λ (t : List ℕ). has_room_for c.args.batch.now.waiting (length (take n t))) c.deref.ensures.value
+    ∙ ap (has_room_for c.args.batch.now.waiting) (length-take-le n spec.template.items made.within) ∙ sym c.has_room_for.ensures.value ∙ c.if-not-has_room_for.false
 
 pub returns-then-not-has_room_for-clause-room : goal.returns-then-not-has_room_for-clause-room
 returns-then-not-has_room_for-clause-room c =
@@ -173,5 +174,6 @@ returns-clause-added c =
     made_is p base slot s.0 spec values stamp n c.time_of.result s.1 s.2 read c.time_of.ensures c.stamp_of-stamp.ensures.value found.value found.within found.sound found.packet in
     let old = c.args.batch.now in
     λ yes. c.push.ensures
+    ∙ ap (λ (t : List ℕ). with_frame (frame_with c.key.result (after_all values spec.program.instrs (stamped stamp (take n t)))) old) c.deref.ensures.value
     ∙ ap (λ (k : Key). with_frame (frame_with k (after_all values spec.program.instrs (stamped stamp (take n spec.template.items)))) old) c.key.ensures
     ∙ ap (λ (bytes : List ℕ). with_frame (frame_with (key_of slot) bytes) old) made.is

@@ -5,6 +5,18 @@ use Rattle.trex_core.specs.Records.{BatchView, frames_of}
 use Rattle.trex_core.proofs.Records.{batch_long}
 use Rattle.trex_core.proofs.batch.Batch.has_room_for.Goals as goal
 
+pub overflow_sub-text-2 : goal.overflow_sub-text-2
+overflow_sub-text-2 c =
+    let i = c.self.inside in
+    let long = batch_long i.base (drop i.taken i.packets.items) (drop i.from i.text.items) c.self.invariant.0 in
+    omega (arith, long.1, length-drop i.taken i.packets.items, length-drop i.from i.text.items)
+
+pub is_room-requires : goal.is_room-requires
+is_room-requires c =
+    let i = c.self.inside in
+    let long = batch_long i.base (drop i.taken i.packets.items) (drop i.from i.text.items) c.self.invariant.0 in
+    omega (arith, long.1, c.self.invariant.0.within.bytes, length-drop i.taken i.packets.items, length-drop i.from i.text.items)
+
 pub returns-clause-value : goal.returns-clause-value
 returns-clause-value c =
     let i = c.self.inside in

@@ -24,7 +24,7 @@ invariant_of-self c =
     let some : i.taken < length i.packets.items = omega (arith, c.requires, long.0, length-drop i.taken i.packets.items, ap (λ (v : BatchView). length v.waiting) c.self.view_is) in
     let is = one_passed i.packets.items i.taken c.index.result.now some c.index.ensures in
     let e = batch_behind i.base i.taken i.from 1 (RECORD_HEADER + c.index.result.now.length) i.packets.items i.text.items c.self.invariant.0 is (omega arith) in
-    (e.0, omega (arith, some), e.2, omega arith, omega arith, omega arith)
+    (e.0, omega (arith, some), omega (arith, e.2), omega arith, omega arith, omega arith)
 
 pub returns : goal.returns
 returns c =
