@@ -6,6 +6,7 @@ use Rattle.std.proofs.Math.Seq.{take-add, take-append_seam}
 use Rattle.std.specs.List.{AllByRecursion, range_with_len, slice_get}
 use Rattle.std.specs.Option.{option_map}
 use Rattle.trex_core.specs.Plan.{PlanOf, frames_of_plan}
+use Rattle.trex_core.specs.declared.waiting.Waiting.{Waiting}
 use Rattle.trex_core.specs.Records.{waiting_of}
 use Rattle.trex_core.specs.Works.{IsMade, Work, added, turned}
 use Rattle.trex_merge.specs.declared.key.Key.{Key}
@@ -23,7 +24,7 @@ use Rattle.trex_merge.proofs.ShareLemmas.{emit_shares}
 use Rattle.trex_profile.specs.Stream.{Stream}
 use Rattle.trex_report.specs.declared.report.Tally.{Tally}
 use Rattle.trex_run.specs.Capture.{tallies}
-use Rattle.trex_run.specs.Ready.{IsReady, base_at, marks_of, queues_of}
+use Rattle.trex_run.specs.Ready.{IsReady, base_at, marks_of, queues_of, run_at}
 use Rattle.trex_run.specs.Rounds.{EnteredAfter, HasKeptUp, IsEnoughRounds, TellRounds}
 use Rattle.trex_run.specs.State.{IsPass, IsShort, RunState, ahead, all_of}
 use Rattle.trex_run.specs.Step.{earlier_key, is_packet, mill_after, packet_ahead, passed, reached, rounds_after, supplied, works_after}
@@ -56,6 +57,14 @@ run_within before (suc most) (x ∷ waiting) =
       | true ↦ let rest = run_within before most waiting in omega (arith, rest)
       | false ↦ omega arith
     ]
+
+-- how many packets a run has
+pub run_many : (before : Option Key) (left at : ℕ) (queues : List Queue) (packets : List Waiting) → packets ≡ map waiting_of (run_at at before left queues)
+    → length packets ≡ run_length before left (waiting_at at queues)
+run_many before left at queues packets is =
+    let waiting = waiting_at at queues in
+    ap length is ∙ length-map (run_at at before left queues) waiting_of
+    ∙ length-take-le (run_length before left waiting) waiting (run_within before left waiting)
 
 -- ---- so many packets are sent
 
