@@ -22,7 +22,7 @@ runs-init g c =
     record {
       steps = step.steps;
       gathered = subst (λ (l : List Frame). WrittenAndPending g.O.Sink.held c.args.out.now c.args.out.now c.args.piece.now.items (capture_text base l)) (sym nothing)
-          (subst (λ (l : List ℕ). WrittenAndPending g.O.Sink.held c.args.out.now c.args.out.now c.args.piece.now.items l) c.requires.piece (search rules));
+          (search rules);
       front = nothing ∙ ap (λ n. take n all) (sym none);
       within = omega (arith, none);
       more = step.more;
@@ -34,10 +34,10 @@ runs-init g c =
     }
 
 pub pass-requires-clause-packet : goal.pass-requires-clause-packet
-pass-requires-clause-packet g c = λ lifetimes. sym c.runs.invariant.more ∙ c.runs-test.true
+pass-requires-clause-packet g c = λ lifetimes order. sym c.runs.invariant.more ∙ c.runs-test.true
 
 pub pass-requires-clause-capacity : goal.pass-requires-clause-capacity
-pass-requires-clause-capacity g c = λ lifetimes. c.runs.invariant.capacity
+pass-requires-clause-capacity g c = λ lifetimes order. c.runs.invariant.capacity
 
 pub runs-preserved : goal.runs-preserved
 runs-preserved g c =
