@@ -60,7 +60,7 @@ pub record Made (p : List Stream) (base : ℕ) (slot : Slot) (spec : StreamSpec)
   pub long : length (packet_bytes p base slot) ≡ n
   pub short : length (packet_bytes p base slot) ≤ LONGEST_PACKET
 
-pub made_is : (p : List Stream) (base : ℕ) (slot : Slot) (s : Stream) (spec : StreamSpec) (values : List VarValue) (stamp : Option Stamp) (n time : ℕ)
+made_is : (p : List Stream) (base : ℕ) (slot : Slot) (s : Stream) (spec : StreamSpec) (values : List VarValue) (stamp : Option Stamp) (n time : ℕ)
     → slice_get p slot.stream ≡ Some s → IsSpecOf s spec → values ≡ values_of s slot.number slot.in_run → time ≡ base * 10 ^ 9 + slot.time
     → stamp ≡ option_map (λ flow. stamp_with flow slot.number time) spec.flow → n ≡ trimmed values spec.program.instrs spec.program.template
     → n ≤ spec.program.template → IsProgram spec.program
@@ -84,6 +84,18 @@ made_is p base slot s spec values stamp n time there is read due header len with
       long = long;
       short = omega (arith, long, within, program.short);
     }
+
+-- the same by what is said of the stream at the packet's position
+pub made_of : (p : List Stream) (base : ℕ) (slot : Slot) (spec : StreamSpec) (values : List VarValue) (stamp : Option Stamp) (n time : ℕ)
+    → IsSomeAnd (slice_get p slot.stream) (λ s. IsSpecOf s spec) → IsSomeAnd (slice_get p slot.stream) (λ s. values ≡ values_of s slot.number slot.in_run)
+    → time ≡ base * 10 ^ 9 + slot.time → stamp ≡ option_map (λ flow. stamp_with flow slot.number time) spec.flow → n ≡ trimmed values spec.program.instrs spec.program.template
+    → n ≤ spec.program.template → IsProgram spec.program
+    → ((h : Option Stamp) (template : List ℕ) → IsTemplateOf spec.program template → version_of h ≡ spec.program.stamp → length (packet spec.program.instrs values h template) ≡ n)
+    → Made p base slot spec values stamp n
+made_of p base slot spec values stamp n time is reads due header len within program lengths =
+    let s = some_is (slice_get p slot.stream) (λ s. IsSpecOf s spec) is in
+    let read = at_stream p slot.stream s.0 (λ s. values ≡ values_of s slot.number slot.in_run) s.1 reads in
+    made_is p base slot s.0 spec values stamp n time s.1 s.2 read due header len within program lengths
 
 -- there are as many rows as streams, where each shows the same of both
 pub rows_long : {X Y : Type 0} (f : X → Y) (g : Stream → Y) (rows : List X) (p : List Stream) → map f rows ≡ map g p → length rows ≡ length p

@@ -6,7 +6,7 @@ use Rattle.std.proofs.lemmas.Bool.Decides.{nat_tests}
 use Rattle.std.proofs.lemmas.Grind.{flat_map-append}
 use Rattle.std.proofs.lemmas.List.{append-nil, drop_at, drop-drop, drop-map, length-map, map-append, take_at, take-append-drop, take-map}
 use Rattle.std.proofs.lemmas.List.Sums.{sum_by-append, sum_by-cons}
-use Rattle.trex_pcap.specs.Writing.{Packet, record_header_of, record_of}
+use Rattle.trex_pcap.specs.Writing.{record_header_of, record_of}
 use Rattle.std.specs.Option.{option_map}
 use Rattle.trex_merge.specs.declared.key.Key.{Key}
 use Rattle.trex_merge.specs.Frames.{Frame, key_of}
@@ -14,7 +14,7 @@ use Rattle.trex_merge.specs.Queues.{is_none_left}
 use Rattle.trex_core.specs.declared.batch.TheConstants.{BATCH_PACKETS, BATCH_BYTES, RECORD_HEADER}
 use Rattle.trex_core.specs.declared.waiting.Waiting.{Waiting}
 use Rattle.trex_core.specs.Batches.{IsWithin, bytes_of, has_room_for}
-use Rattle.trex_core.specs.Records.{AreBatch, frame_with, frames_of, text_length, waiting_of}
+use Rattle.trex_core.specs.Records.{AreBatch, BatchView, frame_with, frames_of, text_length, waiting_of, with_frame}
 use Rattle.trex_core.specs.Texts.{packet_at, records_text}
 
 -- the header of a record has as many bytes as that of every other
@@ -166,7 +166,7 @@ batch_behind base taken from n passed packets text batch is within =
     (now.0, now.1, omega (arith, is, (first_records_of base n ws ts batch).1, length-drop from text))
 
 -- a batch with one packet more
-pub batch_more : (base : ℕ) (ws : List Waiting) (text : List ℕ) (f : Frame) → AreBatch base ws text → has_room_for (frames_of ws text) (length f.bytes) ≡ true
+batch_more : (base : ℕ) (ws : List Waiting) (text : List ℕ) (f : Frame) → AreBatch base ws text → has_room_for (frames_of ws text) (length f.bytes) ≡ true
     → AreBatch base (ws ++ waiting_of f ∷ []) (text ++ record_of (packet_at base f)) × (frames_of (ws ++ waiting_of f ∷ []) (text ++ record_of (packet_at base f)) ≡ frames_of ws text ++ f ∷ [])
 batch_more base ws text f batch has =
     let fs = frames_of ws text in
@@ -188,11 +188,6 @@ batch_long base ws text batch =
 pub none_left : (ws : List Waiting) (text : List ℕ) → is_none_left (frames_of ws text) ≡ eqb (length ws) 0
 none_left [] text = refl
 none_left (w ∷ ws) text = grind (arith, nat_tests)
-
--- the whole text is as long as what is known of the packets tells
-pub batch_text : (base : ℕ) (ws : List Waiting) (text : List ℕ) → AreBatch base ws text → text_length ws ≡ length text
-batch_text base ws text batch =
-    ap text_length batch.known ∙ text_length-waiting base (frames_of ws text) ∙ ap length (sym batch.records)
 
 -- what holds of all packets holds of those behind the first ones
 pub all_drop : (P : Frame → Type 0) (n : ℕ) (fs : List Frame) → AllByRecursion P fs → AllByRecursion P (drop n fs)
@@ -232,3 +227,17 @@ first_of (f ∷ fs) key bytes is shows =
 -- what stands behind the first ones of a list that is another
 pub rest_is : {X : Type 0} (xs ys : List X) (n : ℕ) → xs ≡ ys → take (length xs - n) (drop n xs) ≡ drop n ys
 rest_is xs ys n same = take_all (length xs - n) (drop n xs) (omega (arith, length-drop n xs)) ∙ ap (drop n) same
+
+-- what is kept after one packet more is a batch, and it is seen as the old one with that packet
+pub batch_pushed : (base : ℕ) (ws : List Waiting) (text : List ℕ) (old : BatchView) (f : Frame) (n : ℕ) (ws' : List Waiting) (text' : List ℕ) → AreBatch base ws text
+    → (let v : BatchView = record { base = base; waiting = frames_of ws text } in v) ≡ old → has_room_for (frames_of ws text) n ≡ true → length f.bytes ≡ n
+    → ws' ≡ ws ++ (let w : Waiting = record { key = key_of f; length = n } in w) ∷ [] → text' ≡ text ++ record_of (packet_at base f)
+    → AreBatch base ws' text' × ((let v : BatchView = record { base = base; waiting = frames_of ws' text' } in v) ≡ with_frame f old)
+batch_pushed base ws text old f n ws' text' batch is has long known records =
+    let more = batch_more base ws text f batch (ap (has_room_for (frames_of ws text)) long ∙ has) in
+    let p : ws' ≡ ws ++ waiting_of f ∷ [] = known ∙ ap (λ m. ws ++ (let w : Waiting = record { key = key_of f; length = m } in w) ∷ []) (sym long) in
+    let all : frames_of ws' text' ≡ frames_of ws text ++ f ∷ [] =
+    ap (λ (v : List Waiting). frames_of v text') p ∙ ap (frames_of (ws ++ waiting_of f ∷ [])) records ∙ more.1 in (
+      subst (λ (v : List Waiting). AreBatch base v text') (sym p) (subst (AreBatch base (ws ++ waiting_of f ∷ [])) (sym records) more.0),
+      ap (λ (fs : List Frame). let v : BatchView = record { base = base; waiting = fs } in v) all ∙ ap (with_frame f) is,
+    )

@@ -1,5 +1,5 @@
 -- The packets at the front that stand before a key, counted one by one.
-use Rattle.std.proofs.Common.{◌≡◌, ℕ, zero, suc, add-one, ◌+◌, ◌-◌, ◌<◌, ◌≤◌, Bool, true, false, cond, Option, List, [], ◌∷◌, get_or, length, map, take, drop, refl, sym, ap, ◌∙◌, subst, arith}
+use Rattle.std.proofs.Common.{◌≡◌, ℕ, zero, suc, add-one, ◌+◌, ◌-◌, ◌<◌, ◌≤◌, Bool, true, false, cond, Option, List, [], ◌∷◌, get_or, length, map, take, drop, refl, sym, ap, ◌∙◌, arith}
 use Rattle.std.proofs.Math.Seq.{drop-cons}
 use Rattle.std.proofs.lemmas.List.{drop_all, get_or-map, length-map, take-map}
 use Rattle.trex_merge.specs.declared.key.Key.{Key}
@@ -92,27 +92,27 @@ take-take_within (suc n) zero xs short = absurd (omega arith)
 take-take_within (suc n) (suc m) [] short = refl
 take-take_within (suc n) (suc m) (x ∷ xs) short = ap (λ ys. x ∷ ys) (take-take_within n m xs (omega arith))
 
--- the first packets of a batch, so many, with so many bytes of its text, are those that stand before a key
-pub record IsRun (base : ℕ) (ws : List Waiting) (text : List ℕ) (before : Option Key) (most count bytes : ℕ) : Type 0 where
-  pub packets : take count (take most ws) ≡ map waiting_of (take (run_length before most (frames_of ws text)) (frames_of ws text))
+-- of some packets at the front of a batch the first ones, so many, with so many bytes of its text, are those that stand before a key
+pub record IsRun (base : ℕ) (ws front : List Waiting) (text : List ℕ) (before : Option Key) (most count bytes : ℕ) : Type 0 where
+  pub packets : take count front ≡ map waiting_of (take (run_length before most (frames_of ws text)) (frames_of ws text))
   pub joined : take bytes text ≡ records_text base (take (run_length before most (frames_of ws text)) (frames_of ws text))
   pub within : bytes ≤ length text
 
-pub run_is : (base : ℕ) (ws : List Waiting) (text : List ℕ) (before : Option Key) (most count bytes : ℕ) → AreBatch base ws text
-    → ((frames : List Frame) → take most ws ≡ map waiting_of frames → count ≡ run_length before (length (take most ws)) frames)
-    → count ≤ length (take most ws) → bytes ≡ text_length (take count (take most ws)) → IsRun base ws text before most count bytes
-run_is base ws text before most count bytes batch counted short measured =
+pub run_is : (base : ℕ) (ws front : List Waiting) (text : List ℕ) (before : Option Key) (most count bytes : ℕ) → AreBatch base ws text → front ≡ take most ws
+    → ((frames : List Frame) → front ≡ map waiting_of frames → count ≡ run_length before (length front) frames)
+    → count ≤ length front → bytes ≡ text_length (take count front) → IsRun base ws front text before most count bytes
+run_is base ws front text before most count bytes batch is counted short measured =
     let fs = frames_of ws text in
     let n = run_length before most fs in
-    let known : take most ws ≡ map waiting_of (take most fs) = ap (take most) batch.known ∙ take-map waiting_of most fs in
-    let long : length (take most ws) ≡ length (take most fs) = ap length known ∙ length-map (take most fs) waiting_of in
-    let is : count ≡ n = counted (take most fs) known ∙ ap (λ m. run_length before m (take most fs)) long ∙ sym (run_length-take before most fs) in
-    let few : count ≤ most = omega (arith, take_within most ws) in
-    let front : take count (take most ws) ≡ take n ws = take-take_within count most ws few ∙ ap (λ m. take m ws) is in
-    let size : bytes ≡ text_length (take n ws) = measured ∙ ap text_length front in
+    let known : front ≡ map waiting_of (take most fs) = is ∙ ap (take most) batch.known ∙ take-map waiting_of most fs in
+    let long : length front ≡ length (take most fs) = ap length known ∙ length-map (take most fs) waiting_of in
+    let same : count ≡ n = counted (take most fs) known ∙ ap (λ m. run_length before m (take most fs)) long ∙ sym (run_length-take before most fs) in
+    let few : count ≤ most = omega (arith, take_within most ws, ap length is) in
+    let first : take count front ≡ take n ws = ap (take count) is ∙ take-take_within count most ws few ∙ ap (λ m. take m ws) same in
+    let size : bytes ≡ text_length (take n ws) = measured ∙ ap text_length first in
     let records = first_records_of base n ws text batch in
     record {
-      packets = front ∙ ap (take n) batch.known ∙ take-map waiting_of n fs;
+      packets = first ∙ ap (take n) batch.known ∙ take-map waiting_of n fs;
       joined = ap (λ m. take m text) size ∙ records.0;
       within = omega (arith, size, records.1);
     }

@@ -41,17 +41,23 @@ fn letters(alloc: Global, failing: &[u64]) -> Result<MemSource, AllocError> {
     Ok(MemSource::new(b"abcde".to_vec(alloc)?, 2, numbers(alloc, failing)?))
 }
 
+/// What reads of that source answer where the second one fails, and the first two bytes that they were given then.
+const READS: [(Result<usize, Failed>, &[u8; 2]); 5] = [
+    (Ok(2), b"ab"),
+    (Err(Failed), b"ab"),
+    (Ok(2), b"cd"),
+    (Ok(1), b"ed"),
+    (Ok(0), b"ed"),
+];
+
+/// What writes of three bytes answer at a sink of five bytes, at most two a call, where the second one fails.
+const WRITES: [Result<usize, Failed>; 5] = [Ok(2), Err(Failed), Ok(2), Ok(1), Err(Failed)];
+
 #[test]
 fn a_source_in_memory_fails_at_its_call_and_then_goes_on(rt: HostRuntime) -> Result<(), Fail> {
     let mut source = letters(rt.alloc(), &[2])?;
     let mut into = [0u8; 4];
-    for (want, front) in [
-        (Ok(2), b"ab"),
-        (Err(Failed), b"ab"),
-        (Ok(2), b"cd"),
-        (Ok(1), b"ed"),
-        (Ok(0), b"ed"),
-    ] {
+    for &(want, front) in &READS {
         assert_eq!(rt; source.read(&mut into), want);
         assert_eq!(rt; &into[..2], front.as_slice());
     }
@@ -61,7 +67,7 @@ fn a_source_in_memory_fails_at_its_call_and_then_goes_on(rt: HostRuntime) -> Res
 #[test]
 fn a_sink_in_memory_fails_at_its_call_and_when_it_is_full(rt: HostRuntime) -> Result<(), Fail> {
     let mut sink = MemSink::new(rt.alloc(), 5, 2, numbers(rt.alloc(), &[2])?)?;
-    for want in [Ok(2), Err(Failed), Ok(2), Ok(1), Err(Failed)] {
+    for &want in &WRITES {
         assert_eq!(rt; sink.write(b"xyz"), want);
     }
     assert_eq!(rt; sink.write(b""), Ok(0));

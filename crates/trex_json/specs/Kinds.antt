@@ -92,8 +92,11 @@ abbrev pub rate_kind : Data → Option RateKind
 rate_kind d = option_and_then rate_of_word (as_str d)
 
 -- the word of the one kind of flow
+abbrev pub if_latency : List ℕ → Option (List ℕ)
+if_latency word = if bytes_eq word (codes "latency") then Some word else None
+
 abbrev pub latency_word : Data → Option (List ℕ)
-latency_word d = option_and_then (λ word. if bytes_eq word (codes "latency") then Some word else None) (as_str d)
+latency_word d = option_and_then if_latency (as_str d)
 
 -- the version of a latency header
 abbrev pub version_of : ℕ → Option Version

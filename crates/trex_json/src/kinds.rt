@@ -4,7 +4,7 @@ ghost use Rattle.std.specs.Prelude.{◌≡◌, ◌⊎◌, ◌≤◌, ◌<◌, �
 ghost use Rattle.std.specs.Option.{ForSome};
 ghost use Rattle.serde_json.specs.View.{view};
 ghost use Rattle.trex_fields.specs.Bytes.{IsSize};
-ghost use Rattle.trex_json.specs.Kinds.{an_object, an_array, whole, scaled, decimal, id_of, next_id, mode_word, rate_kind, latency_word, a_version, a_size, l4_code, l4_code6, a_signed, shift_of, a_shift, an_op, instr_word, layer_word, a_mac, an_address, an_address6};
+ghost use Rattle.trex_json.specs.Kinds.{an_object, an_array, whole, scaled, decimal, id_of, next_id, mode_of_word, mode_word, rate_of_word, rate_kind, if_latency, latency_word, a_version, a_size, l4_code, l4_code6, a_signed, shift_of, a_shift, op_of_word, an_op, instr_of_word, instr_word, layer_of_word, layer_word, a_mac, an_address, an_address6};
 
 use crate::addresses::{address_of, mac_of};
 use serde_json::Value;
@@ -122,14 +122,33 @@ fn id_of(n: i64) -> Option<Option<u32>>
     Some(Some(n as u32))
 }
 
+/// The mode of that word.
+fn mode_of_word(word: &str) -> Option<ModeWord>
+    ensures { result ≡ mode_of_word word.now }
+{
+    match word {
+        "continuous" => Some(ModeWord::Continuous),
+        "single_burst" => Some(ModeWord::SingleBurst),
+        "multi_burst" => Some(ModeWord::MultiBurst),
+        _ => None,
+    }
+}
+
 /// The word of a mode.
 pub(crate) fn mode_word(value: &Value) -> Option<ModeWord>
     ensures { result ≡ mode_word (view value.now) }
 {
-    match value.as_str()? {
-        "continuous" => Some(ModeWord::Continuous),
-        "single_burst" => Some(ModeWord::SingleBurst),
-        "multi_burst" => Some(ModeWord::MultiBurst),
+    mode_of_word(value.as_str()?)
+}
+
+/// What a rate of that word counts.
+fn rate_of_word(word: &str) -> Option<RateKind>
+    ensures { result ≡ rate_of_word word.now }
+{
+    match word {
+        "pps" => Some(RateKind::Pps),
+        "bps_L1" => Some(RateKind::BpsL1),
+        "bps_L2" => Some(RateKind::BpsL2),
         _ => None,
     }
 }
@@ -138,20 +157,21 @@ pub(crate) fn mode_word(value: &Value) -> Option<ModeWord>
 pub(crate) fn rate_kind(value: &Value) -> Option<RateKind>
     ensures { result ≡ rate_kind (view value.now) }
 {
-    match value.as_str()? {
-        "pps" => Some(RateKind::Pps),
-        "bps_L1" => Some(RateKind::BpsL1),
-        "bps_L2" => Some(RateKind::BpsL2),
-        _ => None,
-    }
+    rate_of_word(value.as_str()?)
+}
+
+/// The word, where it is that of the one kind of flow.
+fn if_latency(word: &str) -> Option<&str>
+    ensures { option_map (λ word. word.now) result ≡ if_latency word.now }
+{
+    if word == "latency" { Some(word) } else { None }
 }
 
 /// The word of the one kind of flow.
 pub(crate) fn latency_word(value: &Value) -> Option<&str>
     ensures { option_map (λ word. word.now) result ≡ latency_word (view value.now) }
 {
-    let word = value.as_str()?;
-    if word == "latency" { Some(word) } else { None }
+    if_latency(value.as_str()?)
 }
 
 /// The version of a latency header: 1 or 2.
@@ -230,11 +250,11 @@ pub(crate) fn a_shift(value: &Value) -> Option<i8>
     shift_of(a_signed(value)?)
 }
 
-/// How a variable goes from packet to packet.
-pub(crate) fn an_op(value: &Value) -> Option<Op>
-    ensures { result ≡ an_op (view value.now) }
+/// How a variable of that word goes from packet to packet.
+fn op_of_word(word: &str) -> Option<Op>
+    ensures { result ≡ op_of_word word.now }
 {
-    match value.as_str()? {
+    match word {
         "inc" => Some(Op::Inc),
         "dec" => Some(Op::Dec),
         "random" => Some(Op::Random),
@@ -242,11 +262,18 @@ pub(crate) fn an_op(value: &Value) -> Option<Op>
     }
 }
 
-/// The word of an instruction.
-pub(crate) fn instr_word(value: &Value) -> Option<InstrWord>
-    ensures { result ≡ instr_word (view value.now) }
+/// How a variable goes from packet to packet.
+pub(crate) fn an_op(value: &Value) -> Option<Op>
+    ensures { result ≡ an_op (view value.now) }
 {
-    match value.as_str()? {
+    op_of_word(value.as_str()?)
+}
+
+/// The instruction of that word.
+fn instr_of_word(word: &str) -> Option<InstrWord>
+    ensures { result ≡ instr_of_word word.now }
+{
+    match word {
         "flow_var" => Some(InstrWord::FlowVar),
         "flow_var_rand_limit" => Some(InstrWord::RandLimit),
         "tuple_flow_var" => Some(InstrWord::Tuple),
@@ -260,11 +287,18 @@ pub(crate) fn instr_word(value: &Value) -> Option<InstrWord>
     }
 }
 
-/// The word of a layer.
-pub(crate) fn layer_word(value: &Value) -> Option<LayerWord>
-    ensures { result ≡ layer_word (view value.now) }
+/// The word of an instruction.
+pub(crate) fn instr_word(value: &Value) -> Option<InstrWord>
+    ensures { result ≡ instr_word (view value.now) }
 {
-    match value.as_str()? {
+    instr_of_word(value.as_str()?)
+}
+
+/// The layer of that word.
+fn layer_of_word(word: &str) -> Option<LayerWord>
+    ensures { result ≡ layer_of_word word.now }
+{
+    match word {
         "Ethernet" => Some(LayerWord::Ethernet),
         "Vlan" => Some(LayerWord::Vlan),
         "Ipv4" => Some(LayerWord::Ipv4),
@@ -274,6 +308,13 @@ pub(crate) fn layer_word(value: &Value) -> Option<LayerWord>
         "Raw" => Some(LayerWord::Raw),
         _ => None,
     }
+}
+
+/// The word of a layer.
+pub(crate) fn layer_word(value: &Value) -> Option<LayerWord>
+    ensures { result ≡ layer_word (view value.now) }
+{
+    layer_of_word(value.as_str()?)
 }
 
 /// A MAC address.

@@ -6,6 +6,7 @@ mod keep;
 mod reading;
 #[cfg(test)]
 mod tests;
+mod window;
 
 pub use fault::MeasureFault;
 pub use keep::Keep;

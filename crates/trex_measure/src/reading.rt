@@ -1,6 +1,6 @@
 // The reading of a capture to its end, record by record.
 
-ghost use Rattle.std.specs.Prelude.{◌≡◌, [], vec_len, OnOk, IfOk, IfErr, IsErrOf};
+ghost use Rattle.std.specs.Prelude.{◌≡◌, [], OnOk, IfOk, IfErr, IsErrOf};
 ghost use Rattle.std.specs.Io.KnownBytes.{IsAtEnd};
 ghost use Rattle.trex_io.specs.Faults.{Rises};
 ghost use Rattle.trex_stats.specs.Counts.{StandsFor};
@@ -8,22 +8,14 @@ ghost use Rattle.trex_measure.specs.Measured.{OnCapture, IfCapture, IsSound, Ans
 
 use crate::fault::{MeasureFault, measure_fault};
 use crate::keep::Keep;
+use crate::window::Window;
 use std::alloc::Global;
-use trex_io::{Memory, Source};
-use trex_pcap::CaptureReader;
+use trex_io::Source;
+use trex_pcap::{Ahead, CaptureFault, CaptureReader, look_ahead};
 use trex_stats::Stats;
 
-/// The most captured bytes of a record.
-const LONGEST_RECORD: usize = 262_144;
-
-/// A buffer for the captured bytes of a record.
-fn record_buffer(alloc: Global) -> Result<Vec<u8>, Memory>
-    ensures { IfOk result (λ buffer. vec_len buffer ≡ LONGEST_RECORD) }
-{
-    let mut buffer = Vec::new(alloc);
-    buffer.resize(LONGEST_RECORD, 0)?;
-    Ok(buffer)
-}
+/// The length of a record header in bytes.
+const RECORD_HEADER: usize = 16;
 
 /// Reads a capture (pcap 2.4) to its end and hands each of its records to what keeps it, which is given back. `Read` comes only
 /// where the source failed, and `Bad` exactly where the capture has that fault, but for `Read` and `Memory`.
@@ -41,24 +33,39 @@ pub fn read_into<S: Source, K: Keep>(
     ensures read { IsErrOf result MeasureFault.Read → Rises S.faults input.old input.new }
     ensures exact { IfCapture (S.left input.old) (AnswersBy K.stands result) }
 {
-    let Ok(mut buffer) = record_buffer(alloc) else {
+    let Ok(mut window) = Window::new(alloc) else {
         return Err(MeasureFault::Memory);
     };
-    let mut reader = match CaptureReader::start(input) {
-        Ok(reader) => reader,
+    let format = match CaptureReader::start(input) {
+        Ok(reader) => reader.format(),
         Err(fault) => return Err(measure_fault(fault)),
     };
     let mut keep = keep;
+    let mut records = 0;
     'records: loop {
-        match reader.next(input, &mut buffer) {
-            Ok(Some(record)) => {
-                let bytes = &buffer[..record.captured as usize];
+        match look_ahead(format, records, window.bytes()) {
+            Ahead::Whole(record) => {
+                let captured = record.captured as usize;
+                let bytes = &window.bytes()[RECORD_HEADER..][..captured];
                 let Ok(()) = keep.take(record.time, bytes, record.original) else {
                     return Err(MeasureFault::Memory);
                 };
+                window.skip(RECORD_HEADER + captured);
+                records = record.number;
             }
-            Ok(None) => return Ok(keep),
-            Err(fault) => return Err(measure_fault(fault)),
+            Ahead::Faulty(fault) => return Err(measure_fault(fault)),
+            Ahead::Short => {
+                let Ok(count) = window.refill(input) else {
+                    return Err(MeasureFault::Read);
+                };
+                if count == 0 {
+                    if window.is_empty() {
+                        return Ok(keep);
+                    }
+                    let number = records + 1;
+                    return Err(MeasureFault::Bad(CaptureFault::Torn { number }));
+                }
+            }
         }
     }
 }

@@ -28,9 +28,25 @@ fn measured(
     Ok(measure(alloc, &mut input))
 }
 
+/// How many bytes a call gives: less than a header, a header, more, and as many as are asked for.
+const PER_CALL: [usize; 5] = [1, 15, 16, 17, 65_536];
+
+/// How many bytes the capture is cut to, and the number of the record that is torn.
+const TORN: [(usize, u64); 9] = [
+    (0, 0),
+    (23, 0),
+    (25, 1),
+    (39, 1),
+    (40, 1),
+    (42, 1),
+    (44, 2),
+    (57, 2),
+    (58, 2),
+];
+
 #[test]
 fn a_capture_is_measured_however_it_comes(rt: HostRuntime) -> Result<(), Fail> {
-    for per_call in [1, 3, 1000] {
+    for &per_call in &PER_CALL {
         let Ok(stats) = measured(rt.alloc(), 59, per_call, 0)? else {
             return Err("no counts".into());
         };
@@ -40,7 +56,7 @@ fn a_capture_is_measured_however_it_comes(rt: HostRuntime) -> Result<(), Fail> {
             stamped: 0,
         };
         assert_eq!(rt; stats.totals(), totals);
-        for (length, number) in [(0, 0), (23, 0), (25, 1), (42, 1), (58, 2)] {
+        for &(length, number) in &TORN {
             let torn = MeasureFault::Bad(CaptureFault::Torn { number });
             assert_eq!(rt;
                 measured(rt.alloc(), length, per_call, 0)?.err(),
@@ -48,11 +64,31 @@ fn a_capture_is_measured_however_it_comes(rt: HostRuntime) -> Result<(), Fail> {
             );
         }
     }
-    for failing in 1..6 {
+    for failing in 1..7 {
         assert_eq!(rt;
-            measured(rt.alloc(), 59, 1000, failing)?.err(),
+            measured(rt.alloc(), 59, 17, failing)?.err(),
             Some(MeasureFault::Read)
         );
     }
+    Ok(())
+}
+
+#[test]
+fn the_longest_record_is_measured(rt: HostRuntime) -> Result<(), Fail> {
+    let mut bytes = Vec::from_slice(rt.alloc(), &header())?;
+    bytes.extend_from_slice(&record_header(7, 262_144))?;
+    bytes.resize(24 + 16 + 262_144, 0xff)?;
+    bytes.extend_from_slice(&record_header(9, 1))?;
+    bytes.push(0xff)?;
+    let mut input = MemSource::new(bytes, 65_536, Vec::new(rt.alloc()));
+    let Ok(stats) = measure(rt.alloc(), &mut input) else {
+        return Err("no counts".into());
+    };
+    let totals = Totals {
+        records: 2,
+        bytes: 262_145,
+        stamped: 0,
+    };
+    assert_eq!(rt; stats.totals(), totals);
     Ok(())
 }

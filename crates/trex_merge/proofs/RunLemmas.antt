@@ -55,7 +55,7 @@ least_there from zero (xs ∷ lists) x rest there first =
         let later = least_is key_of (from + 1) lists other is in
         let before : IsTrue (is_before (key_of x) (key_of later.x)) = first (suc later.at) later.x later.rest (λ e. cc) later.there in
         let no : is_before other.key (key_of x) ≡ false = is_false (is_before other.key (key_of x))
-            (λ yes. not_both (key_of x) (key_of later.x) before (subst (λ (k : Key). IsTrue (is_before k (key_of x))) later.is yes)) in
+        (λ yes. not_both (key_of x) (key_of later.x) before (subst (λ (k : Key). IsTrue (is_before k (key_of x))) later.is yes)) in
         rw no refl
 least_there from (suc at) (xs ∷ lists) x rest there first =
     let place : Place = record { key = key_of x; feed = (from + 1) + at } in
@@ -143,7 +143,10 @@ has_one before (suc more) (x ∷ rest) some =
       | true ↦ λ stands e.
           let one : suc more - 1 ≡ more = omega arith in
           record {
-            x = x; rest = rest; is = refl; stands = stands;
+            x = x;
+            rest = rest;
+            is = refl;
+            stands = stands;
             left = ap (λ t. cond t (suc (run_length before more rest)) 0) stands ∙ ap (λ n. suc (run_length before n rest)) (sym one);
             some = omega arith;
           }
@@ -227,9 +230,9 @@ run_passes (suc m) state at before next others within =
     let left = one_less before more waiting some in
     let there = waiting_popped queues at in
     let within' : m ≤ run_length before (s.limit - length s.sent) (waiting_at at s.queues) =
-        subst (λ n. m ≤ run_length before n (waiting_at at s.queues)) (sym less) (subst (λ (l : List Frame). m ≤ run_length before (more - 1) l) (sym there) (omega arith)) in
+    subst (λ n. m ≤ run_length before n (waiting_at at s.queues)) (sym less) (subst (λ (l : List Frame). m ≤ run_length before (more - 1) l) (sym there) (omega arith)) in
     let next' : 0 < m → next_in s ≡ Packet at = λ again.
-        ap (λ n. next_of n s.queues) less ∙ run_goes_on more at before queues comes others (omega arith) in
+    ap (λ n. next_of n s.queues) less ∙ run_goes_on more at before queues comes others (omega arith) in
     ap (run (replicate m Emit)) e
     ∙ run_passes m s at before next' (others_still popped queues at before others) within'
     ∙ ap (λ (l : List Queue). let t : MillState = record { queues = l; sent = (state.sent ++ take 1 waiting) ++ take m (waiting_at at s.queues); limit = state.limit } in t) (at_place_more m queues at)

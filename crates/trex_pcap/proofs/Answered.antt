@@ -12,7 +12,7 @@ use Rattle.trex_pcap.specs.Reading.{head_fault, captured_in, seen, opening}
 use Rattle.trex_pcap.proofs.Fronts.{front_none, front_many, front_torn, front_fault, front_cut, front_record, begin_whole}
 
 -- a list of no bytes
-empty : (xs : List ℕ) → length xs ≡ 0 → xs ≡ []
+pub empty : (xs : List ℕ) → length xs ≡ 0 → xs ≡ []
 empty [] none = refl
 empty (x ∷ xs) none = absurd (omega (arith, none))
 
@@ -25,7 +25,7 @@ pub whole : (old new : Option (List ℕ)) (into : List ℕ) (n : ℕ) → length
 whole old new into n full taken = subst (Consumes old new) (take_all n into full) taken
 
 -- a record that a header names, with these bytes
-seen_head : (f : Format) (n : ℕ) (head : List ℕ) (r : Record) (bytes : List ℕ) → IsHead f n head r
+pub seen_head : (f : Format) (n : ℕ) (head : List ℕ) (r : Record) (bytes : List ℕ) → IsHead f n head r
     → seen f head bytes ≡ record { time = r.time; bytes = bytes; original = r.original }
 unfolding seen
 seen_head f n head r bytes is = rw (is.time, is.original) refl

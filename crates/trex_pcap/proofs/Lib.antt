@@ -1,3 +1,5 @@
+mod Aheads
 mod Answered
+pub mod FillingLemmas
 mod Fronts
 pub mod ReadingLemmas

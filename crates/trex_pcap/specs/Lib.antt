@@ -1,3 +1,4 @@
+pub mod Ahead
 pub mod Following
 pub mod Place
 pub mod Reading

@@ -1,6 +1,7 @@
 //! The classic pcap capture format, version 2.4: the writer's nanosecond records, and a reader of both kinds in both byte orders.
 #![tactic(auto)]
 
+mod ahead;
 mod fault;
 mod filling;
 mod format;
@@ -13,6 +14,7 @@ mod tests;
 mod unfit;
 mod writing;
 
+pub use ahead::{Ahead, look_ahead};
 pub use fault::CaptureFault;
 pub use format::Format;
 pub use laws::{one_reading, reads_back};

@@ -14,7 +14,7 @@ use std::marker::Model;
 use trex_io::Source;
 
 /// The most records of a capture that is read.
-const MOST_RECORDS: u64 = 100_000_000;
+pub(crate) const MOST_RECORDS: u64 = 100_000_000;
 
 /// Reads a capture record by record from a source that gives its bytes in pieces of any size (pcap 2.4).
 #[derive(Debug, Drop)]
@@ -59,6 +59,13 @@ impl CaptureReader {
             records: 0,
             live: true,
         })
+    }
+
+    /// How the capture spells its numbers.
+    pub fn format(&self) -> Format
+        ensures { result ≡ self.now.format }
+    {
+        self.format
     }
 
     /// Whether there may be more: after `start` and after each record, until the end or the first fault.

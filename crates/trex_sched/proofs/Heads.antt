@@ -1,19 +1,22 @@
 -- The heads of some lists: how they change as a list loses its first packet, gets one, or comes anew.
-use Rattle.std.proofs.Common.{◌≡◌, ◌≢◌, ℕ, zero, suc, ◌+◌, ◌<◌, ◌==◌, ◌⊎◌, true, false, cond, List, [], ◌∷◌, ◌++◌, length, get_or, None, Some, refl, sym, ap, ◌∙◌, subst, set, arith, inl, inr, IsTrue}
+use Rattle.std.proofs.Common.{◌≡◌, ◌≢◌, ℕ, zero, suc, ◌+◌, ◌<◌, ◌==◌, ◌⊎◌, true, false, cond, List, [], ◌∷◌, ◌++◌, drop, length, get_or, Option, None, Some, refl, sym, ap, ◌∙◌, subst, set, arith, inl, inr, IsTrue}
 use Rattle.std.proofs.Permutation.{every_shuffled}
 use Rattle.std.proofs.lemmas.Bool.Decides.{nat_tests}
-use Rattle.std.proofs.lemmas.List.Sorted.{sum_by-IsPermutation}
+use Rattle.std.proofs.lemmas.List.Sorted.{IsPermutation-cons, IsPermutation-swap, IsPermutation-trans, sum_by-IsPermutation}
 use Rattle.std.proofs.lemmas.List.Sums.{sum_by-cons}
 use Rattle.std.specs.BinaryHeap.{IsUpperBound, lt_by_cmp}
 use Rattle.std.specs.List.{AllByRecursion, slice_get}
 use Rattle.std.specs.List.Sorted.{IsPermutation}
+use Rattle.std.specs.Ordering.{is_lt, is_some_and, nat_cmp, ordering_then, partial_ordering_then}
+use Rattle.std.specs.declared.cmp.Ordering.{Ordering}
+use Rattle.std.specs.declared.cmp.Ordering.TheVariants.{Less, Equal, Greater}
 use Rattle.std.specs.declared.cmp.Reverse.{Reverse}
 use Rattle.trex_merge.specs.Order.{BeginsNotBefore, is_before}
 use Rattle.trex_merge.proofs.FeedLemmas.{slice_get-set_other}
 use Rattle.trex_sched.specs.declared.head.Head.{Head}
 use Rattle.trex_sched.specs.declared.slot.Slot.{Slot}
 use Rattle.trex_sched.specs.Entries.{key_of}
-use Rattle.trex_sched.specs.Heads.{AreHeads, compare_heads, head_of, heads_at, IsHeadIn, least_first}
+use Rattle.trex_sched.specs.Heads.{AreHeads, compare_heads, head_of, heads_at, IsFirst, IsHeadIn, least_first, with_first}
 
 -- ---- places of a list
 
@@ -286,10 +289,90 @@ pub record BeginsAt (lists : List (List Slot)) (place : ℕ) : Type 0 where
   pub there : slice_get lists place ≡ Some (slot ∷ rest)
   pub least : AllByRecursion (BeginsNotBefore key_of slot) lists
 
-pub begins_at : (lists : List (List Slot)) (head : Reverse Head) (heads : List (Reverse Head)) → AreHeads lists heads
-    → IsHeadIn lists head.0 → IsUpperBound least_first head heads → BeginsAt lists head.0.place
-begins_at lists head heads known mine above =
-    record { slot = mine.slot; rest = mine.rest; there = mine.there; least = least_head lists head heads mine.slot head.0.place mine.is known above }
+-- a head isn't less than itself
+not_less_itself : (head : Reverse Head) → lt_by_cmp least_first head head ≡ false
+not_less_itself head = grind (arith, nat_tests)
+
+pub begins_at : (lists : List (List Slot)) (head : Reverse Head) (others : List (Reverse Head)) → AreHeads lists (head ∷ others)
+    → IsUpperBound least_first head others → BeginsAt lists head.0.place
+begins_at lists head others known above =
+    let mine = known.each.0 in record {
+      slot = mine.slot;
+      rest = mine.rest;
+      there = mine.there;
+      least = least_head lists head (head ∷ others) mine.slot head.0.place mine.is known (not_less_itself head, above);
+    }
+
+-- ---- the first head and the others
+
+-- where there is no first head, there is no packet
+pub none_first : (lists : List (List Slot)) (first : Option Head) (others : List (Reverse Head)) → first ≡ None → AreHeads lists (with_first first others)
+    → IsFirst first others → AllByRecursion (λ list. list ≡ []) lists
+none_first lists None others is known least = all_empty lists (subst (AreHeads lists) least known)
+none_first lists (Some head) others is known least = absurd cc
+
+-- the first head stands for the first packet in order
+pub some_first : (lists : List (List Slot)) (first : Option Head) (others : List (Reverse Head)) (head : Head) → first ≡ Some head
+    → AreHeads lists (with_first first others) → IsFirst first others → BeginsAt lists head.place
+some_first lists None others head is known least = absurd cc
+some_first lists (Some first) others head is known least =
+    let same : first ≡ head = cc in
+    subst (λ (h : Head). BeginsAt lists h.place) same (begins_at lists (record { 0 = first }) others known least)
+
+-- the others stand for the other lists
+pub first_goes : (lists : List (List Slot)) (first : Option Head) (others : List (Reverse Head)) (head : Head) → first ≡ Some head
+    → AreHeads lists (with_first first others) → AreHeads (set lists head.place []) others
+first_goes lists None others head is known = absurd cc
+first_goes lists (Some first) others head is known =
+    let same : first ≡ head = cc in
+    subst (λ (h : Head). AreHeads (set lists h.place []) others) same (head_goes lists (record { 0 = first }) others known)
+
+-- ---- a head in place of the least one
+
+-- the order of two heads as the code compares them
+some_then : (o p : Ordering) (rest : Option Ordering) → rest ≡ Some p → partial_ordering_then (Some o) rest ≡ Some (ordering_then o p)
+some_then Less p rest is = refl
+some_then Equal p rest is = is
+some_then Greater p rest is = refl
+
+pub less_is : (a b : Head)
+    → is_some_and is_lt (partial_ordering_then (Some (nat_cmp a.time b.time))
+    (partial_ordering_then (Some (nat_cmp a.stream b.stream)) (partial_ordering_then (Some (nat_cmp a.number b.number)) (Some (nat_cmp a.place b.place)))))
+    ≡ lt_by_cmp compare_heads a b
+less_is a b =
+    ap (is_some_and is_lt) (some_then (nat_cmp a.time b.time) _ _ (some_then (nat_cmp a.stream b.stream) _ _ (some_then (nat_cmp a.number b.number) _ _ refl)))
+
+-- of two heads the less one isn't after the other
+less_first : (a b : Reverse Head) → lt_by_cmp compare_heads a.0 b.0 ≡ true → lt_by_cmp least_first a b ≡ false
+less_first a b less = grind (arith, nat_tests)
+
+-- what isn't before a head isn't before one that isn't after it
+not_before_lesser : (a b y : Reverse Head) → lt_by_cmp compare_heads a.0 b.0 ≡ false → lt_by_cmp least_first a y ≡ false → lt_by_cmp least_first b y ≡ false
+not_before_lesser a b y not_less above = grind (arith, nat_tests)
+
+-- what stands before the least of some heads stands before all
+pub before_least : (least head : Reverse Head) (heads : List (Reverse Head)) → lt_by_cmp compare_heads least.0 head.0 ≡ false
+    → IsUpperBound least_first least heads → IsUpperBound least_first head heads
+before_least least head [] not_less above = tt
+before_least least head (y ∷ heads) not_less above = (not_before_lesser least head y not_less above.0, before_least least head heads not_less above.1)
+
+-- the heads with one more, where it stands in the least one's place
+pub replaced_heads : (heads more : List (Reverse Head)) (least head : Reverse Head) → 0 < length heads → least ≡ get_or heads 0 least
+    → IsPermutation (head ∷ drop 1 heads) more → IsPermutation (head ∷ heads) (least ∷ more)
+replaced_heads [] more least head some is moved = absurd (omega arith)
+replaced_heads (x ∷ rest) more least head some is moved =
+    subst (λ l. IsPermutation (head ∷ x ∷ rest) (l ∷ more)) (sym is)
+    (IsPermutation-trans _ _ _ (IsPermutation-swap (head ∷ x ∷ rest) (x ∷ head ∷ rest) 0 1 (omega arith) (omega arith) refl) (IsPermutation-cons x _ _ moved))
+
+above_rest : (least : Reverse Head) (heads : List (Reverse Head)) → IsUpperBound least_first least heads → IsUpperBound least_first least (drop 1 heads)
+above_rest least [] above = tt
+above_rest least (x ∷ rest) above = above.1
+
+-- the least head is still least where a greater one stands in its place
+pub replaced_least : (heads more : List (Reverse Head)) (least head : Reverse Head) → lt_by_cmp compare_heads least.0 head.0 ≡ true
+    → IsUpperBound least_first least heads → IsPermutation (head ∷ drop 1 heads) more → IsUpperBound least_first least more
+replaced_least heads more least head less above moved =
+    every_shuffled (λ y. lt_by_cmp least_first least y ≡ false) (head ∷ drop 1 heads) more moved (less_first least head less, above_rest least heads above)
 
 -- a list without a length has nothing
 pub no_items : {X : Type 0} (xs : List X) → length xs ≡ 0 → xs ≡ []

@@ -1,7 +1,7 @@
 -- The heads of some lists of packets: for each list that has a packet, what its first is ordered by and the list's place (own).
-use Rattle.std.specs.Prelude.{◌≡◌, ℕ, ◌<◌, ◌≤◌, ◌==◌, Some, List, ◌∷◌, count_by}
+use Rattle.std.specs.Prelude.{◌≡◌, ℕ, ◌<◌, ◌≤◌, ◌==◌, Option, None, Some, List, [], ◌∷◌, count_by}
 use Rattle.std.specs.List.{AllByRecursion, slice_get}
-use Rattle.std.specs.BinaryHeap.{IsHeap}
+use Rattle.std.specs.BinaryHeap.{IsHeap, IsUpperBound}
 use Rattle.std.specs.Ordering.{nat_cmp, ordering_then}
 use Rattle.std.specs.declared.cmp.Ordering.{Ordering}
 use Rattle.std.specs.declared.cmp.Reverse.{Reverse}
@@ -40,9 +40,20 @@ compare_heads a b =
 abbrev pub least_first : Reverse Head → Reverse Head → Ordering
 least_first a b = compare_heads b.0 a.0
 
--- Lists that rise, with no packet twice, whose heads stand in a heap with the least at its top.
-pub record AreInOrder (lists : List (List Slot)) (heads : List (Reverse Head)) : Type 0 where
+-- the first head, where there is one, and the others
+abbrev pub with_first : Option Head → List (Reverse Head) → List (Reverse Head)
+with_first None others = others
+with_first (Some first) others = record { 0 = first } ∷ others
+
+-- no other head is less than the first, and where there is no first, there is no other
+abbrev pub IsFirst : Option Head → List (Reverse Head) → Type 0
+IsFirst None others = others ≡ []
+IsFirst (Some first) others = IsUpperBound least_first (record { 0 = first }) others
+
+-- Lists that rise, with no packet twice, whose heads are a least one and the others, which stand in a heap with the least of them at its top.
+pub record AreInOrder (lists : List (List Slot)) (first : Option Head) (others : List (Reverse Head)) : Type 0 where
   pub rising : AllByRecursion (IsRising key_of) lists
   pub distinct : AreDistinct key_of (joined lists)
-  pub known : AreHeads lists heads
-  pub heap : IsHeap least_first heads
+  pub known : AreHeads lists (with_first first others)
+  pub least : IsFirst first others
+  pub heap : IsHeap least_first others

@@ -1,13 +1,13 @@
 // The walks of many chains at once.
 
-ghost use Rattle.std.specs.Prelude.{◌≡◌, ◌<◌, ◌≤◌, ◌^◌, [], ◌∷◌, ◌++◌, IfOk, OnOk, drop, map, slice_get, slice_index_or, slice_set, vec_len};
-ghost use Rattle.std.specs.BinaryHeap.{IsHeap, heap_capacity, heap_items, heap_len};
+ghost use Rattle.std.specs.Prelude.{◌≡◌, ◌<◌, ◌≤◌, ◌^◌, [], ◌∷◌, ◌++◌, IfOk, OnOk, Some, drop, map, slice_get, slice_index_or, slice_set, vec_len};
+ghost use Rattle.std.specs.BinaryHeap.{IsHeap, heap_items, heap_len};
 ghost use Rattle.std.specs.List.{AllByRecursion};
 ghost use Rattle.std.specs.List.Sorted.{IsPermutation};
 ghost use Rattle.trex_merge.specs.Order.{ordered};
 ghost use Rattle.trex_sched.specs.Chain.{chain_of, IsChain};
 ghost use Rattle.trex_sched.specs.Entries.{key_of, share};
-ghost use Rattle.trex_sched.specs.Heads.{AreHeads, least_first};
+ghost use Rattle.trex_sched.specs.Heads.{AreHeads, IsFirst, compare_heads, least_first, with_first};
 ghost use Rattle.trex_sched.specs.Walks.{HaveDistinctStreams, all_entries};
 
 use crate::head::Head;
@@ -23,8 +23,10 @@ use trex_merge::{least_goes_first, order_is_unique};
 #[derive(Drop)]
 pub struct Walks<'p> {
     walks: Vec<Walk<'p>>,
-    /// One for each walk that has a packet.
-    heads: BinaryHeap<Reverse<Head>>,
+    /// The least head, where a walk has a packet.
+    first: Option<Head>,
+    /// One for each other walk that has a packet.
+    others: BinaryHeap<Reverse<Head>>,
 }
 
 impl<'p> Model for Walks<'p> {
@@ -39,7 +41,7 @@ impl<'p> Model for Walks<'p> {
 
     ghost view = { λ w. ordered key_of (joined w.walks.items) };
 
-    ghost invariant = { λ w. AreInOrder w.walks.items (heap_items w.heads) };
+    ghost invariant = { λ w. AreInOrder w.walks.items w.first (heap_items w.others) };
 }
 
 impl<'p> Walks<'p> {
@@ -69,7 +71,12 @@ impl<'p> Walks<'p> {
             let walk = Walk::start(chain, core, cores, duration);
             add(&mut walks, &mut heads, walk)?;
         }
-        Ok(Walks { walks, heads })
+        let first = take_least(&mut heads);
+        Ok(Walks {
+            walks,
+            first,
+            others: heads,
+        })
     }
 
     /// The next packet, which stays.
@@ -78,7 +85,7 @@ impl<'p> Walks<'p> {
     {
         // For the proof that the least head is the first of all packets.
         least_goes_first::<Slot>();
-        let Reverse(head) = self.heads.peek()?;
+        let head = self.first?;
         let walk = &self.walks[head.place];
         walk.peek()
     }
@@ -90,8 +97,13 @@ impl<'p> Walks<'p> {
     {
         // For the proof that the least head is the first of all packets, and that the others still rise.
         least_goes_first::<Slot>();
-        let Reverse(head) = self.heads.pop()?;
-        take_next(&mut self.walks, &mut self.heads, head.place)
+        let head = self.first?;
+        take_next(
+            &mut self.walks,
+            &mut self.first,
+            &mut self.others,
+            head.place,
+        )
     }
 }
 
@@ -114,43 +126,72 @@ fn add<'p>(
     Ok(())
 }
 
-/// Passes the next packet of the walk at a place, and answers it. The walk's head is put back where it has a further packet.
+/// Passes the next packet of the walk at a place, and answers it. The least of the other walks' heads and of this one's, where it has a
+/// further packet, is the first one then.
 fn take_next(
     walks: &mut Vec<Walk>,
-    heads: &mut BinaryHeap<Reverse<Head>>,
+    first: &mut Option<Head>,
+    others: &mut BinaryHeap<Reverse<Head>>,
     place: usize,
 ) -> Option<Slot>
     requires place { place < vec_len walks.old }
-    requires room { heap_len heads.old < heap_capacity heads.old }
-    requires others { AreHeads (slice_set walks.old.items place []) (heap_items heads.old) }
-    requires heap { IsHeap least_first (heap_items heads.old) }
+    requires others { AreHeads (slice_set walks.old.items place []) (heap_items others.old) }
+    requires heap { IsHeap least_first (heap_items others.old) }
     ensures slot { result ≡ slice_get (slice_index_or walks.old.items place []) 0 }
     ensures walks { walks.new.items ≡ slice_set walks.old.items place (drop 1 (slice_index_or walks.old.items place [])) }
-    ensures known { AreHeads walks.new.items (heap_items heads.new) }
-    ensures heap { IsHeap least_first (heap_items heads.new) }
+    ensures known { AreHeads walks.new.items (with_first first.new (heap_items others.new)) }
+    ensures least { IsFirst first.new (heap_items others.new) }
+    ensures heap { IsHeap least_first (heap_items others.new) }
 {
     let walk = &mut walks[place];
     let slot = walk.peek();
     if slot.is_some() {
         walk.advance();
     }
-    if let Some(next) = walk.peek() {
-        put_back(heads, Head::new(&next, place));
+    match walk.peek() {
+        Some(next) => *first = Some(take_lesser(others, Head::new(&next, place))),
+        None => *first = take_least(others),
     }
     slot
 }
 
-/// Puts a head into a heap that has room for it.
-fn put_back(heads: &mut BinaryHeap<Reverse<Head>>, head: Head)
-    requires room { heap_len heads.old < heap_capacity heads.old }
+/// Takes the least head out of a heap.
+fn take_least(heads: &mut BinaryHeap<Reverse<Head>>) -> Option<Head>
     requires heap { IsHeap least_first (heap_items heads.old) }
-    ensures head { IsPermutation (record { 0 = head } ∷ heap_items heads.old) (heap_items heads.new) }
+    ensures heads { IsPermutation (heap_items heads.old) (with_first result (heap_items heads.new)) }
+    ensures least { IsFirst result (heap_items heads.new) }
     ensures heap { IsHeap least_first (heap_items heads.new) }
 {
-    match heads.push(Reverse(head)) {
-        Ok(()) => (),
-        Err(_) => unreachable!(),
+    let Reverse(head) = heads.pop()?;
+    Some(head)
+}
+
+/// The lesser of a head and the least one of a heap. The other one stays in the heap.
+fn take_lesser(others: &mut BinaryHeap<Reverse<Head>>, head: Head) -> Head
+    requires heap { IsHeap least_first (heap_items others.old) }
+    ensures heads { IsPermutation (record { 0 = head } ∷ heap_items others.old) (record { 0 = result } ∷ heap_items others.new) }
+    ensures least { IsFirst (Some result) (heap_items others.new) }
+    ensures heap { IsHeap least_first (heap_items others.new) }
+{
+    match others.peek() {
+        Some(Reverse(least)) if *least < head => {
+            let least = *least;
+            replace_least(others, head);
+            least
+        }
+        _ => head,
     }
+}
+
+/// Puts a head into a heap in place of the least one.
+fn replace_least(heads: &mut BinaryHeap<Reverse<Head>>, head: Head)
+    requires some { 0 < heap_len heads.old }
+    requires heap { IsHeap least_first (heap_items heads.old) }
+    ensures heads { IsPermutation (record { 0 = head } ∷ drop 1 (heap_items heads.old)) (heap_items heads.new) }
+    ensures heap { IsHeap least_first (heap_items heads.new) }
+{
+    let mut least = heads.peek_mut().unwrap();
+    *least = Reverse(head);
 }
 
 #[cfg(test)]

@@ -1,5 +1,5 @@
 -- Ranges of numbers in order: what one more number makes of them.
-use Rattle.std.proofs.Common.{◌≡◌, ℕ, zero, suc, ◌+◌, ◌-◌, ◌^◌, ◌<◌, ◌≤◌, true, false, ◌||◌, nat_eq, nat_le, nat_lt, if◌then◌else◌, List, [], ◌∷◌, ◌++◌, length, refl, sym, ap, ◌∙◌, subst, arith, Option, Some, None, IfSome, unwrap_or, inl, inr, append_assoc}
+use Rattle.std.proofs.Common.{◌≡◌, ℕ, zero, suc, ◌+◌, ◌-◌, ◌^◌, ◌<◌, ◌≤◌, Bool, true, false, not, ◌||◌, nat_eq, nat_le, nat_lt, if◌then◌else◌, List, [], ◌∷◌, ◌++◌, length, refl, sym, ap, ◌∙◌, subst, arith, Option, Some, None, IfSome, unwrap_or, inl, inr, append_assoc, append-nil}
 use Rattle.std.proofs.Math.Bool.{or-true, or-false}
 use Rattle.std.proofs.lemmas.Bool.{cases_lt, lt-ltb, le-ltb, eq-eqb, ne_eqb, le-leb, lt-leb}
 use Rattle.std.proofs.lemmas.Grind.{flat_map-append}
@@ -12,7 +12,7 @@ use Rattle.std.specs.Map.{lookup, remove_entry}
 use Rattle.std.specs.Ordering.{nat_cmp, is_eq, is_gt, is_lt}
 use Rattle.std.specs.declared.cmp.Ordering.TheVariants.{Less, Equal, Greater}
 use Rattle.std.specs.declared.ops.Bound.TheVariants.{Included, Unbounded}
-use Rattle.trex_stats.specs.Ranges.{has, Rises, span, numbers, Ascend, IsBelow, reaches, joined_before, joined_after, Gains}
+use Rattle.trex_stats.specs.Ranges.{has, Rises, span, numbers, Ascend, IsBelow, reaches, with_tail, joined_before, joined_after, Gains}
 
 -- ---- how two numbers compare
 
@@ -365,6 +365,40 @@ module _ (rs : List (ℕ × ℕ)) (number : ℕ) (below : Option (ℕ × ℕ)) (
       ∙ ap (λ l. c.front ++ l) (rw (not_at (number + 1) first (omega (arith, c.within))) (ap (λ l. (first, last) ∷ l) (j.gone less))) in
       subst (λ l. Gains rs l number) (sym went) (gained rs number first last c j)
 
+-- ---- the last range beside the others
+
+-- all but the last range rise
+pub Ascend-others : (rs : List (ℕ × ℕ)) (tail : Option (ℕ × ℕ)) → Ascend 0 (with_tail rs tail) → Ascend 0 rs
+Ascend-others rs None up = up
+Ascend-others rs (Some r) up = Ascend-front 0 rs (r ∷ []) up
+
+-- the last range goes in behind the others
+pub put_last : (rs : List (ℕ × ℕ)) (r : ℕ × ℕ) → Ascend 0 (rs ++ r ∷ []) → insert_entry nat_cmp rs r.0 r.1 ≡ rs ++ r ∷ []
+put_last rs r up =
+    ap (λ l. insert_entry nat_cmp l r.0 r.1) (sym (append-nil rs)) ∙ entry_after 0 r.0 r.1 rs [] (Ascend-front 0 rs (r ∷ []) up) (Ascend-back 0 rs (r ∷ []) up).0
+
+Ascend-later : (low later : ℕ) (rs : List (ℕ × ℕ)) (r : ℕ × ℕ) → Ascend low (rs ++ r ∷ []) → Ascend later rs → later ≤ r.0 → Ascend later (rs ++ r ∷ [])
+Ascend-later low later [] r (begins, some, fits, more) others le = (le, some, fits, more)
+Ascend-later low later (x ∷ rs) r (begins, some, fits, more) (from, there, within, others) le = (from, some, fits, more)
+
+-- the last of the others that begins at a number or below it is the last of all that does, where the last of all begins above it
+pub below_others : (rs : List (ℕ × ℕ)) (r : ℕ × ℕ) (number : ℕ) (below : Option (ℕ × ℕ)) → Ascend 0 (rs ++ r ∷ []) → number < r.0 → IsBelow rs number below → IsBelow (rs ++ r ∷ []) number below
+below_others rs r number None up less is = Ascend-later 0 (number + 1) rs r up is (omega arith)
+below_others rs r number (Some b) up less (front, back, split, begins, above) =
+    let whole : rs ++ r ∷ [] ≡ front ++ b ∷ (back ++ r ∷ []) = ap (λ l. l ++ r ∷ []) split ∙ append_assoc front (b ∷ back) (r ∷ []) in
+    let parts = Ascend-back 0 front (b ∷ (back ++ r ∷ [])) (subst (Ascend 0) whole up) in
+    (front, back ++ r ∷ [], whole, begins, Ascend-later (b.1 + 2) (number + 1) back r parts.3 above (omega arith))
+
+-- the last range grows by the number just behind it
+pub grown : (rs : List (ℕ × ℕ)) (first last number : ℕ) → Ascend 0 (rs ++ (first, last) ∷ []) → last + 1 ≡ number → number < 2 ^ 64
+    → Gains (rs ++ (first, last) ∷ []) (rs ++ (first, number) ∷ []) number
+unfolding cut_joined joins_none
+grown rs first last number up touches fits =
+    let r : ℕ × ℕ = (first, last) in
+    let rest = Ascend-back 0 rs (r ∷ []) up in
+    let c = cut_joined (rs ++ r ∷ []) rs [] r number refl (Ascend-front 0 rs (r ∷ []) up) rest.0 rest.1 touches tt in
+    gained (rs ++ r ∷ []) number first number c (joins_none [] number tt fits)
+
 -- ---- numbers that rise
 
 pub Rises-from : (a b : ℕ) (xs : List ℕ) → a ≤ b → Rises b xs → Rises a xs
@@ -437,3 +471,31 @@ last_is_greatest rs t r up split =
       rw (whole, has-append (numbers t) (span r ++ []) r.1, has-append (span r) [] r.1, has_inside (r.1 + 1 - r.0) r.0 r.1 last.1 (omega (arith, last.1))) (or-true (has (numbers t) r.1)),
       numbers_up_to r.1 0 rs up (subst (λ l. past 0 l ≤ r.1 + 2) (sym split) (omega (arith, past-push 0 t r))),
     )
+
+-- ---- one number more or not
+
+-- ranges that hold a number gain nothing by it
+pub gains_there : (rs : List (ℕ × ℕ)) (number : ℕ) → Ascend 0 rs → has (numbers rs) number ≡ true → Gains rs rs number
+gains_there rs number up there = record { ascend = up; gains = sym (insert_there 0 number (numbers rs) (numbers_rise 0 rs up) there) }
+
+-- the numbers from the first to the last of the last range are there
+pub has_tail : (rs : List (ℕ × ℕ)) (first last number : ℕ) → Ascend 0 (rs ++ (first, last) ∷ []) → first ≤ number → number ≤ last → has (numbers (rs ++ (first, last) ∷ [])) number ≡ true
+has_tail rs first last number up low high =
+    has_reaches (rs ++ (first, last) ∷ []) number (Some (first, last)) up (rs, [], refl, low, tt) ∙ le-leb number last high
+
+-- those above are not
+pub has_no_more : (rs : List (ℕ × ℕ)) (first last number : ℕ) → Ascend 0 (rs ++ (first, last) ∷ []) → last < number → has (numbers (rs ++ (first, last) ∷ [])) number ≡ false
+has_no_more rs first last number up beyond =
+    let low = Ascend-back 0 rs ((first, last) ∷ []) up in
+    has_reaches (rs ++ (first, last) ∷ []) number (Some (first, last)) up (rs, [], refl, omega (arith, low.1), tt) ∙ lt-leb number last beyond
+
+-- how many numbers there are with one more, which is new or not
+pub length-insert : (rs : List (ℕ × ℕ)) (x : ℕ) (new : Bool) → Ascend 0 rs → new ≡ not (has (numbers rs) x)
+    → length (insert_key nat_cmp (numbers rs) x) ≡ length (numbers rs) + (if new then 1 else 0)
+length-insert rs x new up is =
+    let both : (b : Bool) → has (numbers rs) x ≡ b → length (insert_key nat_cmp (numbers rs) x) ≡ length (numbers rs) + (if not b then 1 else 0) = λ b same. elim b as
+    (λ d. has (numbers rs) x ≡ d → length (insert_key nat_cmp (numbers rs) x) ≡ length (numbers rs) + (if not d then 1 else 0)) [
+      | true ↦ λ there. omega (arith, ap length (insert_there 0 x (numbers rs) (numbers_rise 0 rs up) there))
+      | false ↦ λ absent. length-insert_new x (numbers rs) absent
+    ] same in
+    rw is (both (has (numbers rs) x) refl)

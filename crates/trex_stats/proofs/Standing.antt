@@ -11,9 +11,10 @@ use Rattle.trex_io.specs.Seen.{Seen}
 use Rattle.trex_stamp.specs.declared.header.Stamp.{Stamp}
 use Rattle.trex_stats.specs.declared.arrival.Arrival.{Arrival}
 use Rattle.trex_stats.specs.declared.flow.Flow.{Flow}
+use Rattle.trex_stats.specs.declared.glimpse.Glimpse.TheVariants.{Plain, Stamped}
 use Rattle.trex_stats.specs.declared.line.FlowLine.{FlowLine}
 use Rattle.trex_stats.specs.Arrivals.{line_of, sequences}
-use Rattle.trex_stats.specs.Counts.{Counts, StandsFor, stamp_at, arrival_of, arrival_in, arrivals, with_one, lines_in, lines_of}
+use Rattle.trex_stats.specs.Counts.{Counts, StandsFor, captured_of, glimpse_by, glimpse_of, stamp_at, arrival_of, arrival_in, arrivals, with_one, lines_in, lines_of}
 use Rattle.trex_stats.specs.Kept.{AreFlow, AreFlows, line_in}
 use Rattle.trex_stats.specs.Ranges.{has}
 use Rattle.trex_stats.proofs.Members.{missing_same}
@@ -75,6 +76,40 @@ module _ (c new : Counts) (rs : List Seen) (r : Seen) (stands : StandsFor c rs) 
         stamped = omega (arith, stamped, stands.stamped, rw one at more);
         flows = subst (λ l. AreFlows l (arrivals (rs ++ r ∷ []))) (sym flows) (AreFlows-same c.flows (arrivals rs) (arrivals (rs ++ r ∷ [])) (arrivals_plain rs r is) stands.flows);
       }
+
+-- what the counts take of a record has the number of its captured bytes
+captured_by : (n : ℕ) (o : Option Stamp) → captured_of (glimpse_by n o) ≡ n
+captured_by n None = refl
+captured_by n (Some s) = refl
+
+pub captured_glimpse : (r : Seen) → captured_of (glimpse_of r.bytes r.original) ≡ length r.bytes
+captured_glimpse r = captured_by (length r.bytes) (stamp_at r)
+
+-- a record of which the counts take a stamp has this stamp
+pub record HasStamp (r : Seen) (flow sequence sent : ℕ) : Type 0 where
+  pub stamp : Stamp
+  pub there : stamp_at r ≡ Some stamp
+  pub flow_is : stamp.flow ≡ flow
+  pub arrival_is : (came : ℕ) → arrival_of came stamp ≡ record { sequence = sequence; sent = sent; came = came }
+
+stamp_by : (r : Seen) (captured flow sequence sent : ℕ) (o : Option Stamp) → stamp_at r ≡ o → glimpse_by (length r.bytes) o ≡ Stamped captured flow sequence sent
+    → HasStamp r flow sequence sent
+stamp_by r captured flow sequence sent None is glimpse = cc
+stamp_by r captured flow sequence sent (Some s) is glimpse =
+    let number : s.sequence ≡ sequence = cc in
+    let time : s.time ≡ sent = cc in
+    record { stamp = s; there = is; flow_is = cc; arrival_is = λ came. rw (number, time) refl }
+
+pub glimpse_stamped : (r : Seen) (captured flow sequence sent : ℕ) → glimpse_of r.bytes r.original ≡ Stamped captured flow sequence sent → HasStamp r flow sequence sent
+glimpse_stamped r captured flow sequence sent glimpse = stamp_by r captured flow sequence sent (stamp_at r) refl glimpse
+
+-- a record of which they take none has none
+plain_by : (n captured : ℕ) (o : Option Stamp) → glimpse_by n o ≡ Plain captured → o ≡ None
+plain_by n captured None glimpse = refl
+plain_by n captured (Some s) glimpse = cc
+
+pub glimpse_plain : (r : Seen) (captured : ℕ) → glimpse_of r.bytes r.original ≡ Plain captured → stamp_at r ≡ None
+glimpse_plain r captured glimpse = plain_by (length r.bytes) captured (stamp_at r) glimpse
 
 -- ---- lines
 

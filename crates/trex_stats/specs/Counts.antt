@@ -6,6 +6,8 @@ use Rattle.trex_stamp.specs.Stamp.{stamp_of}
 use Rattle.trex_stamp.specs.declared.header.Stamp.{Stamp}
 use Rattle.trex_stats.specs.declared.arrival.Arrival.{Arrival}
 use Rattle.trex_stats.specs.declared.flow.Flow.{Flow}
+use Rattle.trex_stats.specs.declared.glimpse.Glimpse.{Glimpse}
+use Rattle.trex_stats.specs.declared.glimpse.Glimpse.TheVariants.{Plain, Stamped}
 use Rattle.trex_stats.specs.declared.line.FlowLine.{FlowLine}
 use Rattle.trex_stats.specs.declared.stats.Totals.{Totals}
 use Rattle.trex_stats.specs.Arrivals.{greatest_of, line_of}
@@ -19,6 +21,20 @@ whole_stamp bytes original = if length bytes == original then stamp_of bytes els
 -- the stamp of a record; a record that was cut short has none
 abbrev pub stamp_at : Seen → Option Stamp
 stamp_at r = whole_stamp r.bytes r.original
+
+-- what the counts take of a record of so many captured bytes with this stamp, if any
+abbrev pub glimpse_by : ℕ → Option Stamp → Glimpse
+glimpse_by captured None = Plain captured
+glimpse_by captured (Some s) = Stamped captured s.flow s.sequence s.time
+
+-- what the counts take of a record of these captured bytes and this original length
+abbrev pub glimpse_of : List ℕ → ℕ → Glimpse
+glimpse_of bytes original = glimpse_by (length bytes) (whole_stamp bytes original)
+
+-- how many captured bytes a record has, by what the counts take of it
+abbrev pub captured_of : Glimpse → ℕ
+captured_of (Plain captured) = captured
+captured_of (Stamped captured flow sequence sent) = captured
 
 -- a packet with this stamp, that came at this time
 abbrev pub arrival_of : ℕ → Stamp → Arrival

@@ -28,6 +28,11 @@ abbrev pub Ascend : ℕ → List (ℕ × ℕ) → Type 0
 Ascend low [] = Unit {0}
 Ascend low (r ∷ rs) = (low ≤ r.0) × (r.0 ≤ r.1) × (r.1 < 2 ^ 64) × Ascend (r.1 + 2) rs
 
+-- ranges, and one behind them where there is one
+abbrev pub with_tail : List (ℕ × ℕ) → Option (ℕ × ℕ) → List (ℕ × ℕ)
+with_tail rs None = rs
+with_tail rs (Some r) = rs ++ r ∷ []
+
 -- the last range that begins at a number or below it, where there is one
 abbrev pub IsBelow : List (ℕ × ℕ) → ℕ → Option (ℕ × ℕ) → Type 0
 IsBelow rs number None = Ascend (number + 1) rs

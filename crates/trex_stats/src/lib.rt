@@ -5,6 +5,7 @@ mod arrival;
 mod delays;
 mod flow;
 mod flows;
+mod glimpse;
 mod laws;
 mod line;
 mod order;
@@ -14,6 +15,7 @@ mod stats;
 mod tests;
 
 pub use flows::Flows;
+pub use glimpse::Glimpse;
 pub use laws::measures_clean;
 pub use line::{FlowLine, FlowNumber};
 pub use ranges::SeqRanges;

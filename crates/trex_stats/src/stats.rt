@@ -8,7 +8,7 @@ ghost use Rattle.std.specs.Map.{keys_of, lookup};
 ghost use Rattle.std.specs.Ordering.{nat_cmp};
 ghost use Rattle.trex_io.specs.Seen.{Seen};
 ghost use Rattle.trex_stats.specs.Arrivals.{line_of};
-ghost use Rattle.trex_stats.specs.Counts.{StandsFor, arrivals, flows_of, lines_in, lines_of, totals_of, whole_stamp, with_one};
+ghost use Rattle.trex_stats.specs.Counts.{StandsFor, arrivals, captured_of, flows_of, glimpse_of, lines_in, lines_of, totals_of, with_one};
 ghost use Rattle.trex_stats.specs.Kept.{AllUpTo, AreFlows};
 ghost use Rattle.trex_stats.specs.Ranges.{has};
 ghost use Rattle.trex_stats.specs.declared.arrival.Arrival.{Arrival};
@@ -16,12 +16,12 @@ ghost use Rattle.trex_stats.specs.declared.arrival.Arrival.{Arrival};
 use crate::arrival::Arrival;
 use crate::flow::Flow;
 use crate::flows::Flows;
+use crate::glimpse::Glimpse;
 use crate::line::{FlowLine, FlowNumber};
 use std::alloc::Global;
 use std::collections::BTreeMap;
 use std::marker::Model;
 use trex_io::Memory;
-use trex_stamp::{Stamp, find_stamp};
 
 /// What is counted of the records of a capture, in all and flow by flow.
 #[derive(Drop)]
@@ -81,17 +81,37 @@ impl Stats {
         ensures records { OnOk result (self.new.records ≡ self.old.records + 1) }
         ensures err { OnErr result (self.new ≡ self.old) }
     {
-        if let Some(stamp) = whole_stamp(bytes, original) {
-            let arrival = Arrival {
-                sequence: stamp.sequence,
-                sent: stamp.time,
-                came: time,
-            };
-            arrive(self.alloc, &mut self.flows, stamp.flow, arrival)?;
-            self.stamped += 1;
+        self.count(time, Glimpse::of(bytes, original))
+    }
+
+    /// Counts one more record, of this time in ns, by what the counts take of it. Out of memory, the counts are as before.
+    pub fn count(&mut self, time: u64, glimpse: Glimpse) -> Result<(), Memory>
+        requires few { self.old.records < 200000000 }
+        requires short { captured_of glimpse ≤ 262144 }
+        ensures stands { OnOk result ((rs : List Seen) (r : Seen) → StandsFor self.old rs → r.time ≡ time
+            → glimpse_of r.bytes r.original ≡ glimpse → StandsFor self.new (rs ++ r ∷ [])) }
+        ensures records { OnOk result (self.new.records ≡ self.old.records + 1) }
+        ensures err { OnErr result (self.new ≡ self.old) }
+    {
+        match glimpse {
+            Glimpse::Stamped {
+                flow,
+                sequence,
+                sent,
+                ..
+            } => {
+                let arrival = Arrival {
+                    sequence,
+                    sent,
+                    came: time,
+                };
+                arrive(self.alloc, &mut self.flows, flow, arrival)?;
+                self.stamped += 1;
+            }
+            Glimpse::Plain { .. } => {}
         }
         self.records += 1;
-        self.bytes += bytes.len() as u64;
+        self.bytes += glimpse.captured() as u64;
         Ok(())
     }
 
@@ -134,16 +154,6 @@ impl Stats {
     {
         Flows::over(&self.flows)
     }
-}
-
-/// The stamp at the end of the bytes, where they are the whole packet.
-fn whole_stamp(bytes: &[u8], original: u32) -> Option<Stamp>
-    ensures { result ≡ whole_stamp bytes.now original }
-{
-    if bytes.len() != original as usize {
-        return None;
-    }
-    find_stamp(bytes)
 }
 
 /// The line of the flow at a place of the map.

@@ -204,35 +204,58 @@ fn only_a_whole_packet_counts_for_a_flow(rt: HostRuntime) -> Result<(), Fail> {
     Ok(())
 }
 
+/// A number that goes into a set, whether it is new, and how many numbers the set has then, and its greatest.
+#[derive(Clone, Copy, Drop)]
+struct Taken(u64, bool, u64, u64);
+
+/// Numbers that make the last range longer, repeat it, touch it from below, leave a gap behind it, or go backwards.
+const TAKEN: [Taken; 20] = [
+    Taken(5, true, 1, 5),
+    Taken(6, true, 2, 6),
+    Taken(6, false, 2, 6),
+    Taken(5, false, 2, 6),
+    Taken(4, true, 3, 6),
+    Taken(9, true, 4, 9),
+    Taken(9, false, 4, 9),
+    Taken(6, false, 4, 9),
+    Taken(8, true, 5, 9),
+    Taken(7, true, 6, 9),
+    Taken(2, true, 7, 9),
+    Taken(3, true, 8, 9),
+    Taken(0, true, 9, 9),
+    Taken(10, true, 10, 10),
+    Taken(12, true, 11, 12),
+    Taken(u64::MAX, true, 12, u64::MAX),
+    Taken(u64::MAX, false, 12, u64::MAX),
+    Taken(u64::MAX - 1, true, 13, u64::MAX),
+    Taken(13, true, 14, u64::MAX),
+    Taken(12, false, 14, u64::MAX),
+];
+
+/// Numbers, and whether they are in the set then.
+const THERE: [(u64, bool); 9] = [
+    (0, true),
+    (1, false),
+    (2, true),
+    (10, true),
+    (11, false),
+    (13, true),
+    (14, false),
+    (u64::MAX - 2, false),
+    (u64::MAX - 1, true),
+];
+
 #[test]
 fn a_set_of_numbers_joins_its_ranges(rt: HostRuntime) -> Result<(), Fail> {
     let mut set = SeqRanges::new(rt.alloc());
     assert_eq!(rt; set.greatest(), None);
-    for (number, new, count) in [
-        (5, true, 1),
-        (3, true, 2),
-        (5, false, 2),
-        (4, true, 3),
-        (3, false, 3),
-        (0, true, 4),
-        (u64::MAX, true, 5),
-        (u64::MAX, false, 5),
-        (6, true, 6),
-        (2, true, 7),
-    ] {
+    for &Taken(number, new, count, greatest) in &TAKEN {
         assert!(rt; set.count() < 100);
         assert_eq!(rt; set.insert(number)?, new, "{number}");
         assert_eq!(rt; set.count(), count, "{number}");
+        assert_eq!(rt; set.greatest(), Some(greatest), "{number}");
     }
-    assert_eq!(rt; set.greatest(), Some(u64::MAX));
-    for (number, there) in [
-        (0, true),
-        (1, false),
-        (2, true),
-        (6, true),
-        (7, false),
-        (u64::MAX - 1, false),
-    ] {
+    for &(number, there) in &THERE {
         assert_eq!(rt; set.contains(number), there, "{number}");
     }
     Ok(())

@@ -10,6 +10,12 @@ unfolding state_after
 state_after-plus w m p zero b s = rw zero-add refl
 state_after-plus w m p (suc a) b s = rw suc-add (state_after-plus w m p a b (next_state w m p s))
 
+-- one step after some
+pub one-more : (g : Lcg) (n : ℕ) → (pcg64 (advance 128 multiplier_128 n g)).1 ≡ advance 128 multiplier_128 (n + 1) g
+unfolding state_after
+one-more g n =
+    ap (λ s. let h : Lcg = record { state = s; increment = g.increment } in h) (state_after-plus 128 multiplier_128 g.increment n 1 g.state)
+
 -- a new generator stands at word 0
 pub stands-new : (seed position : ℕ) → started 128 multiplier_128 seed (increment_of 128 position) ≡ stands_at seed position 0
 unfolding stands_at state_after

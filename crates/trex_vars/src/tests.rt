@@ -49,13 +49,16 @@ fn core_shows(rt: &impl Abort, spec: &VarSpec, core: u32, cores: u32, values: &[
     }
 }
 
-/// A variable shows these values first, on 1, 2, 3 and 5 cores.
+/// The numbers of cores that are tried.
+const CORES: [u32; 4] = [1, 2, 3, 5];
+
+/// A variable shows these values first, on each of those numbers of cores.
 fn shows(rt: &impl Abort, spec: &VarSpec, values: &[VarValue])
     requires { length values.now < 2 ^ 32 }
 {
     match check(spec) {
         Ok(()) => {
-            for cores in [1, 2, 3, 5] {
+            for &cores in &CORES {
                 for core in 0..cores {
                     core_shows(rt, spec, core, cores, values);
                 }
@@ -298,13 +301,18 @@ fn far_words_are_found(rt: HostRuntime) {
     let mut strided = Strided::start(&spec, 0, 1);
     strided.seek(1_000_007);
     assert_eq!(rt; strided.value(), VarValue::One(18063830056662689522));
+    let mut one_of_many = Strided::start(&spec, 7, 20);
+    one_of_many.seek(999_967);
+    one_of_many.step();
+    one_of_many.step();
+    assert_eq!(rt; one_of_many.value(), VarValue::One(18063830056662689522));
 }
 
 #[test]
 fn the_first_fault_is_answered(rt: HostRuntime) -> Result<(), Fail> {
     let alloc = rt.alloc();
     let long = Vec::from_elem(alloc, 1u64, 4097)?;
-    for (spec, verdict) in [
+    let verdicts = [
         (counter(Op::Inc, 3, 0, 9, 4, 1), Err(VarFault::Size)),
         (counter(Op::Inc, 1, 0, 300, 256, 1), Err(VarFault::Wide)),
         (counter(Op::Inc, 1, 0, 5, 4, 1), Err(VarFault::Order)),
@@ -351,8 +359,9 @@ fn the_first_fault_is_answered(rt: HostRuntime) -> Result<(), Fail> {
             Err(VarFault::Order),
         ),
         (tuple(0), Ok(())),
-    ] {
-        assert_eq!(rt; check(&spec), verdict, "{spec:?}");
+    ];
+    for (spec, verdict) in &verdicts {
+        assert_eq!(rt; check(spec), *verdict, "{spec:?}");
     }
     Ok(())
 }

@@ -1,6 +1,8 @@
 // The words of a generator, one at a time.
 
 ghost use Rattle.std.specs.Prelude.{◌≡◌, ◌+◌, ℕ};
+ghost use Rattle.rand_pcg.specs.Lcg.{advance};
+ghost use Rattle.rand_pcg.specs.Pcg.{multiplier_128};
 ghost use Rattle.trex_vars.specs.Value.{stands_at, word_at};
 
 use crate::draw::Draw;
@@ -29,13 +31,29 @@ impl Model for Words {
         × (w.word ≡ word_at w.draw.seed w.draw.position w.draw.number) };
 }
 
+/// The least number of words that are skipped by a jump. Fewer are cheaper one by one.
+const JUMP: u64 = 16;
+
+/// Skips some words of a generator.
+fn skip(generator: &mut Lcg128Xsl64, skipped: u64)
+    ensures { generator.new ≡ advance 128 multiplier_128 skipped generator.old }
+{
+    if skipped < JUMP {
+        for _word in 0..skipped {
+            generator.next_word();
+        }
+    } else {
+        generator.advance(u128::from(skipped));
+    }
+}
+
 /// Skips some words of a generator and draws the next one.
 fn draw_after(generator: &mut Lcg128Xsl64, skipped: u64) -> u64
     ensures word { (seed position n : ℕ) → generator.old ≡ stands_at seed position n → result ≡ word_at seed position (n + skipped) }
     ensures stands { (seed position n : ℕ) → generator.old ≡ stands_at seed position n
         → generator.new ≡ stands_at seed position (n + skipped + 1) }
 {
-    generator.advance(u128::from(skipped));
+    skip(generator, skipped);
     generator.next_word()
 }
 

@@ -6,7 +6,7 @@ use Rattle.trex_stats.specs.Counts.{Counts, StandsFor}
 use Rattle.trex_wire.specs.Behind.{IsBehind}
 use Rattle.trex_wire.specs.declared.spec.WireCounts.{WireCounts}
 use Rattle.trex_wire.specs.declared.spec.WireSpec.{WireSpec}
-use Rattle.trex_wire.specs.Sent.{Sent}
+use Rattle.trex_wire.specs.Sent.{Carries, Sent}
 use Rattle.trex_wire.specs.Wired.{wire_counts, wired}
 
 -- two asks with the same numbers are one
@@ -19,14 +19,12 @@ ask_is a b same =
     rw (seed, loss, copy, delay) refl
 
 -- what is measured behind a wire that has the records is that of the capture
-pub on_behind : (text : Option (List ℕ)) (w : Sent) (ask : WireSpec) (c : Counts) (n : WireCounts) → OnCapture text (λ rs. w.list ≡ rs) → w.ask ≡ ask
-    → StandsFor c (wired w.list w.ask) → n ≡ wire_counts w.list w.ask → OnCapture text (IsBehind ask (c, n))
+pub on_behind : (text : Option (List ℕ)) (w : Sent) (ask : WireSpec) (c : Counts) (n : WireCounts) → OnCapture text (Carries w) → w.ask ≡ ask
+    → ((rs : List Seen) → Carries w rs → StandsFor c (wired rs w.ask)) → ((rs : List Seen) → Carries w rs → n ≡ wire_counts rs w.ask)
+    → OnCapture text (IsBehind ask (c, n))
 on_behind None w ask c n on same stands counts = tt
-on_behind (Some text) w ask c n (rs, is, listed) same stands counts = (
+on_behind (Some text) w ask c n (rs, is, carried) same stands counts = (
   rs,
   is,
-  (
-    subst (λ (a : WireSpec). StandsFor c (wired rs a)) same (subst (λ (l : List Seen). StandsFor c (wired l w.ask)) listed stands),
-    subst (λ (a : WireSpec). n ≡ wire_counts rs a) same (subst (λ (l : List Seen). n ≡ wire_counts l w.ask) listed counts),
-  ),
+  (subst (λ (a : WireSpec). StandsFor c (wired rs a)) same (stands rs carried), subst (λ (a : WireSpec). n ≡ wire_counts rs a) same (counts rs carried)),
 )

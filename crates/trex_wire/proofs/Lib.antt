@@ -1,4 +1,3 @@
-mod StoreLemmas
 mod OrderLemmas
 mod LaneLemmas
 mod CountLemmas

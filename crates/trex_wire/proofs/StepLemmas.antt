@@ -1,67 +1,86 @@
--- The lanes get a record's copies more.
-use Rattle.std.proofs.Common.{◌≡◌, ℕ, zero, suc, ◌+◌, ◌*◌, ◌<◌, ◌≤◌, ◌==◌, cond, true, false, Some, None, List, [], ◌∷◌, ◌++◌, append-nil, append_assoc, length, drop, refl, sym, ap, ◌∙◌, arith}
-use Rattle.std.specs.List.{slice_get}
-use Rattle.std.specs.Option.{option_map}
+-- A wire is sent a record more.
+use Rattle.std.proofs.Common.{◌≡◌, ℕ, ◌+◌, ◌*◌, ◌≤◌, ◌==◌, cond, true, false, List, [], ◌∷◌, ◌++◌, append-nil, append_assoc, length, sym, ap, ◌∙◌, arith, add-zero, zero-add, length-append}
+use Rattle.std.proofs.lemmas.List.{length-map, map-append}
 use Rattle.trex_io.specs.Seen.{Seen}
-use Rattle.trex_vars.specs.Value.{word_at}
+use Rattle.trex_vars.specs.Value.{stands_at, word_at}
 use Rattle.trex_wire.specs.declared.lanes.Due.{Due}
 use Rattle.trex_wire.specs.declared.spec.WireSpec.{WireSpec}
+use Rattle.trex_wire.specs.declared.words.Words.{Words}
 use Rattle.trex_wire.specs.Lanes.{came_by, lane, one_with}
+use Rattle.trex_wire.specs.Sent.{Carries, Sent, glimpse_at}
 use Rattle.trex_wire.specs.Wired.{copies_by, with_copies}
 
--- A record of this time stands at a place, before the rest.
-pub record IsNext (rs : List Seen) (place time : ℕ) : Type 0 where
-  pub r : Seen
-  pub is : drop place rs ≡ r ∷ drop (place + 1) rs
-  pub timed : r.time ≡ time
-  pub within : place < length rs
+-- what a lane gets of record i
+abbrev came_at : WireSpec → ℕ → ℕ → ℕ → List Due
+came_at ask j i time = came_by ask j i time (word_at ask.seed 0 (3 * i)) (word_at ask.seed 0 (3 * i + 1 + j))
 
-pub next_record : (rs : List Seen) (place time : ℕ) → Some time ≡ option_map (λ r. r.time) (slice_get rs place) → IsNext rs place time
-next_record [] place time there = cc
-next_record (r ∷ rs) zero time there = let same : r.time ≡ time = cc in record { r = r; is = refl; timed = same; within = omega arith }
-next_record (r ∷ rs) (suc place) time there =
-    let later = next_record rs place time there in
-    let again : suc (place + 1) ≡ suc place + 1 = omega arith in
-    record {
-      r = later.r;
-      is = later.is ∙ ap (λ (n : ℕ). later.r ∷ drop n (r ∷ rs)) again;
-      timed = later.timed;
-      within = omega (arith, later.within);
-    }
+-- what a number gets of record i
+abbrev one_at : ℕ → WireSpec → ℕ → ℕ
+one_at n ask i = one_with n ask (word_at ask.seed 0 (3 * i))
 
--- past the last record nothing is left
-pub none_left : (rs : List Seen) (place : ℕ) → None ≡ option_map (λ r. r.time) (slice_get rs place) → drop place rs ≡ []
-none_left [] zero none = refl
-none_left [] (suc place) none = refl
-none_left (r ∷ rs) zero none = cc
-none_left (r ∷ rs) (suc place) none = none_left rs place none
 
-module _ (ask : WireSpec) (rs : List Seen) (place time w : ℕ) (next : IsNext rs place time) (word : w ≡ word_at ask.seed 0 (3 * place)) where
-  -- a lane gets its copy
-  pub lane_more : (j v : ℕ) (old new whole : List Due) → v ≡ word_at ask.seed 0 (3 * place + 1 + j) → new ≡ old ++ came_by ask j place time w v
-      → old ++ lane ask j place (drop place rs) ≡ whole → new ++ lane ask j (place + 1) (drop (place + 1) rs) ≡ whole
-  lane_more j v old new whole own more kept =
-      let rest = lane ask j (place + 1) (drop (place + 1) rs) in
-      let front : came_by ask j place time w v ++ rest ≡ lane ask j place (drop place rs) =
-      rw (own, word, ← next.timed) (sym (ap (lane ask j place) next.is)) in
-      ap (λ (l : List Due). l ++ rest) more ∙ append_assoc old (came_by ask j place time w v) rest ∙ ap (λ (l : List Due). old ++ l) front ∙ kept
+-- a lane of one more record has its copy more
+lane_more : (ask : WireSpec) (j i : ℕ) (rs : List Seen) (r : Seen) → lane ask j i (rs ++ r ∷ []) ≡ lane ask j i rs ++ came_at ask j (i + length rs) r.time
+lane_more ask j i [] r = append-nil (came_at ask j i r.time) ∙ ap (λ (n : ℕ). came_at ask j n r.time) (sym (add-zero i))
+lane_more ask j i (s ∷ rs) r =
+    let front = came_at ask j i s.time in
+    let rest = lane ask j (i + 1) rs in
+    let place : i + 1 + length rs ≡ i + length (s ∷ rs) = omega arith in
+    ap (λ (l : List Due). front ++ l) (lane_more ask j (i + 1) rs r)
+    ∙ ap (λ (n : ℕ). front ++ (rest ++ came_at ask j n r.time)) place
+    ∙ sym (append_assoc front rest (came_at ask j (i + length (s ∷ rs)) r.time))
 
-  -- a number counts it
-  pub count_more : (n old new whole : ℕ) → new ≡ old + one_with n ask w → old + with_copies n ask place (drop place rs) ≡ whole
-      → new + with_copies n ask (place + 1) (drop (place + 1) rs) ≡ whole
-  count_more n old new whole more kept =
-      let here : with_copies n ask place (drop place rs) ≡ one_with n ask w + with_copies n ask (place + 1) (drop (place + 1) rs) =
-      ap (with_copies n ask place) next.is ∙ ap (λ (x : ℕ). one_with n ask x + with_copies n ask (place + 1) (drop (place + 1) rs)) (sym word) in
-      omega (arith, here, more, kept)
+-- a number of one more record counts it
+count_more : (n : ℕ) (ask : WireSpec) (i : ℕ) (rs : List Seen) (r : Seen) → with_copies n ask i (rs ++ r ∷ []) ≡ with_copies n ask i rs + one_at n ask (i + length rs)
+count_more n ask i [] r = omega (arith, ap (one_at n ask) (add-zero i))
+count_more n ask i (s ∷ rs) r =
+    let place : i + 1 + length rs ≡ i + length (s ∷ rs) = omega arith in
+    omega (arith, count_more n ask (i + 1) rs r, ap (one_at n ask) place)
 
 -- and by one at most
-pub one_at_most : (n : ℕ) (ask : WireSpec) (w : ℕ) → one_with n ask w ≤ 1
+one_at_most : (n : ℕ) (ask : WireSpec) (w : ℕ) → one_with n ask w ≤ 1
 one_at_most n ask w = elim (copies_by ask w == n) as (λ t. cond t 1 0 ≤ 1) [ true ↦ omega arith | false ↦ omega arith ]
 
--- where nothing is left, a lane has all
-pub lane_whole : (ask : WireSpec) (rs : List Seen) (j place : ℕ) (old whole : List Due) → drop place rs ≡ [] → old ++ lane ask j place (drop place rs) ≡ whole → old ≡ whole
-lane_whole ask rs j place old whole none kept =
-    sym (append-nil old) ∙ ap (λ (l : List Seen). old ++ lane ask j place l) (sym none) ∙ kept
+few_counted : (n : ℕ) (ask : WireSpec) (i : ℕ) (rs : List Seen) → with_copies n ask i rs ≤ length rs
+few_counted n ask i [] = omega arith
+few_counted n ask i (r ∷ rs) = omega (arith, few_counted n ask (i + 1) rs, one_at_most n ask (word_at ask.seed 0 (3 * i)))
 
-pub count_whole : (ask : WireSpec) (rs : List Seen) (n place old whole : ℕ) → drop place rs ≡ [] → old + with_copies n ask place (drop place rs) ≡ whole → old ≡ whole
-count_whole ask rs n place old whole none kept = omega (arith, ap (with_copies n ask place) none, kept)
+-- What a wire holds has the copies of a record more, which has this place and these words.
+pub record IsMore (old new : Sent) (r : Seen) (place : ℕ) (words : Words) : Type 0 where
+  pub ask : new.ask ≡ old.ask
+  pub glimpses : new.glimpses ≡ old.glimpses ++ glimpse_at r ∷ []
+  pub first : new.first ≡ old.first ++ came_by old.ask 0 place r.time words.copies words.first
+  pub second : new.second ≡ old.second ++ came_by old.ask 1 place r.time words.copies words.second
+  pub lost : new.lost ≡ old.lost + one_with 0 old.ask words.copies
+  pub copied : new.copied ≡ old.copied + one_with 2 old.ask words.copies
+
+module _ (s : Sent) (rs : List Seen) (carried : Carries s rs) where
+  -- as many records are kept as were sent
+  pub all_kept : length s.glimpses ≡ length rs
+  all_kept = ap length carried.glimpses ∙ length-map rs glimpse_at
+
+  pub few_lost : s.lost ≤ length s.glimpses
+  few_lost = omega (arith, all_kept, carried.lost, few_counted 0 s.ask 0 rs)
+
+  pub few_copied : s.copied ≤ length s.glimpses
+  few_copied = omega (arith, all_kept, carried.copied, few_counted 2 s.ask 0 rs)
+
+  -- one record more, of the next three words
+  pub carries_more : (new : Sent) (r : Seen) (place : ℕ) (words : Words) → place ≡ length s.glimpses → IsMore s new r place words
+      → words.copies ≡ word_at s.ask.seed 0 (3 * length rs) → words.first ≡ word_at s.ask.seed 0 (3 * length rs + 1)
+      → words.second ≡ word_at s.ask.seed 0 (3 * length rs + 1 + 1) → new.generator ≡ stands_at s.ask.seed 0 (3 * length rs + 1 + 1 + 1)
+      → Carries new (rs ++ r ∷ [])
+  carries_more new r place words at more copies first second stands =
+      let n = length rs in
+      let at_end : place ≡ n = omega (arith, at, all_kept) in
+      let long : length (rs ++ r ∷ []) ≡ n + 1 = length-append rs (r ∷ []) in
+      let three : 3 * n + 1 + 1 + 1 ≡ 3 * length (rs ++ r ∷ []) = omega (arith, long) in
+      let first_word = first ∙ ap (word_at s.ask.seed 0) (sym (add-zero (3 * n + 1))) in
+      record {
+        generator = stands ∙ ap (stands_at s.ask.seed 0) three ∙ ap (λ (a : WireSpec). stands_at a.seed 0 (3 * length (rs ++ r ∷ []))) (sym more.ask);
+        glimpses = rw (more.glimpses, carried.glimpses) (sym (map-append glimpse_at rs (r ∷ [])));
+        first = rw (more.first, more.ask, carried.first, at_end, copies, first_word) (ap (λ (m : ℕ). lane s.ask 0 0 rs ++ came_at s.ask 0 m r.time) (sym (zero-add n)) ∙ sym (lane_more s.ask 0 0 rs r));
+        second = rw (more.second, more.ask, carried.second, at_end, copies, second) (ap (λ (m : ℕ). lane s.ask 1 0 rs ++ came_at s.ask 1 m r.time) (sym (zero-add n)) ∙ sym (lane_more s.ask 1 0 rs r));
+        lost = rw (more.lost, more.ask, carried.lost, copies) (ap (λ (m : ℕ). with_copies 0 s.ask 0 rs + one_at 0 s.ask m) (sym (zero-add n)) ∙ sym (count_more 0 s.ask 0 rs r));
+        copied = rw (more.copied, more.ask, carried.copied, copies) (ap (λ (m : ℕ). with_copies 2 s.ask 0 rs + one_at 2 s.ask m) (sym (zero-add n)) ∙ sym (count_more 2 s.ask 0 rs r));
+      }

@@ -1,5 +1,5 @@
 -- What arrives, copy by copy: a lane has the first copies of all records, or the second ones. Own.
-use Rattle.std.specs.Prelude.{ℕ, ◌+◌, ◌*◌, ◌==◌, nat_lt, if◌then◌else◌, List, [], ◌∷◌, ◌++◌, map}
+use Rattle.std.specs.Prelude.{ℕ, ◌+◌, ◌*◌, ◌<◌, ◌==◌, nat_lt, if◌then◌else◌, List, [], ◌∷◌, ◌++◌, map, vec_len, vec_capacity}
 use Rattle.std.specs.List.{slice_get}
 use Rattle.trex_io.specs.Seen.{Seen}
 use Rattle.trex_merge.specs.declared.key.Key.{Key}
@@ -7,6 +7,7 @@ use Rattle.trex_merge.specs.Frames.{Frame}
 use Rattle.trex_merge.specs.Queues.{Queue}
 use Rattle.trex_vars.specs.Value.{word_at}
 use Rattle.trex_wire.specs.declared.lanes.Due.{Due}
+use Rattle.trex_wire.specs.declared.lanes.Lanes.{Lanes}
 use Rattle.trex_wire.specs.declared.merge.Lane.{Lane}
 use Rattle.trex_wire.specs.declared.spec.WireSpec.{WireSpec}
 use Rattle.trex_wire.specs.Wired.{comes_by, copies_by, seen_then}
@@ -48,3 +49,7 @@ queue_of lane = lane_of lane.copy lane.rest.now
 -- the record that arrives
 abbrev pub seen_of : List Seen → Frame → Seen
 seen_of rs frame = seen_then frame.time (slice_get rs frame.number)
+
+-- either lane has room for one more
+abbrev pub HasRoom : Lanes → Type 0
+HasRoom lanes = (vec_len lanes.first < vec_capacity lanes.first) × (vec_len lanes.second < vec_capacity lanes.second)

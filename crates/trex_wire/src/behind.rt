@@ -5,6 +5,7 @@ ghost use Rattle.std.specs.Io.KnownBytes.{IsAtEnd};
 ghost use Rattle.trex_io.specs.Faults.{Rises};
 ghost use Rattle.trex_measure.specs.Measured.{OnCapture, IfCapture, IsSound, AnswersBy};
 ghost use Rattle.trex_wire.specs.Behind.{IsBehind};
+ghost use Rattle.trex_wire.specs.Sent.{Carries};
 ghost use Rattle.trex_wire.specs.Wired.{IsAsk};
 
 use crate::spec::{WireCounts, WireSpec};
@@ -15,9 +16,9 @@ use trex_measure::{Keep, MeasureFault, read_into};
 use trex_stats::Stats;
 
 impl Keep for Wire {
-    ghost stands = { λ w rs. w.list ≡ rs };
+    ghost stands = { Carries };
 
-    ghost kept = { λ w. length w.list };
+    ghost kept = { λ w. length w.glimpses };
 
     ghost mark = { λ w. w.ask.seed ∷ w.ask.loss ∷ w.ask.copy ∷ w.ask.delay ∷ [] };
 

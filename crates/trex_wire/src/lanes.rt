@@ -1,16 +1,13 @@
 // What arrives, copy by copy: one lane for the first copies, one for the second ones.
 
-ghost use Rattle.std.specs.Prelude.{◌≡◌, ℕ, ◌+◌, ◌^◌, ◌<◌, ◌≤◌, ◌++◌, length, map, IfOk, OnOk};
-ghost use Rattle.std.specs.List.{AllByRecursion};
+ghost use Rattle.std.specs.Prelude.{◌≡◌, ℕ, ◌+◌, ◌^◌, ◌<◌, [], ◌∷◌, ◌++◌, map, vec_len, vec_capacity, OnOk};
 ghost use Rattle.std.specs.List.Sorted.{IsPermutation};
-ghost use Rattle.trex_io.specs.Seen.{Seen};
 ghost use Rattle.trex_merge.specs.Order.{AreDistinct, IsRising};
-ghost use Rattle.trex_wire.specs.Lanes.{came_by, key_in, lane, one_with};
-ghost use Rattle.trex_wire.specs.Wired.{IsAsk, comes_by, copies_by, with_copies};
+ghost use Rattle.trex_wire.specs.Lanes.{HasRoom, came_by, key_in, one_with};
+ghost use Rattle.trex_wire.specs.Wired.{IsAsk, comes_by, copies_by};
 
 use crate::spec::WireSpec;
-use crate::store::Store;
-use crate::words::{Words, draw_three, generator_of};
+use crate::words::Words;
 use std::alloc::Global;
 use trex_io::Memory;
 
@@ -56,63 +53,74 @@ fn arrives(ask: WireSpec, time: u64, word: u64) -> u64
 }
 
 impl Lanes {
-    /// Puts the copies of a record where they belong. Out of memory, nothing is promised.
-    fn put(&mut self, ask: WireSpec, time: u64, place: u64, words: Words) -> Result<(), Memory>
+    /// Lanes of no records.
+    pub(crate) fn new(alloc: Global) -> Lanes
+        ensures first { result.first.items ≡ [] }
+        ensures second { result.second.items ≡ [] }
+        ensures lost { result.lost ≡ 0 }
+        ensures copied { result.copied ≡ 0 }
+    {
+        Lanes {
+            first: Vec::new(alloc),
+            second: Vec::new(alloc),
+            lost: 0,
+            copied: 0,
+        }
+    }
+
+    /// Makes room for the copies of a record.
+    pub(crate) fn make_room(&mut self) -> Result<(), Memory>
+        ensures first { self.new.first.items ≡ self.old.first.items }
+        ensures second { self.new.second.items ≡ self.old.second.items }
+        ensures lost { self.new.lost ≡ self.old.lost }
+        ensures copied { self.new.copied ≡ self.old.copied }
+        ensures room { OnOk result (HasRoom self.new) }
+    {
+        self.first.reserve(1)?;
+        self.second.reserve(1)?;
+        Ok(())
+    }
+
+    /// Puts the copies of a record where they belong.
+    pub(crate) fn put(&mut self, ask: WireSpec, time: u64, place: u64, words: Words)
         requires ask { IsAsk ask }
         requires early { time < 2 ^ 63 }
+        requires room { HasRoom self.old }
         requires lost { self.old.lost < 100000000 }
         requires copied { self.old.copied < 100000000 }
-        ensures first { OnOk result (self.new.first.items ≡ self.old.first.items ++ came_by ask 0 place time words.copies words.first) }
-        ensures second { OnOk result (self.new.second.items ≡ self.old.second.items ++ came_by ask 1 place time words.copies words.second) }
-        ensures lost { OnOk result (self.new.lost ≡ self.old.lost + one_with 0 ask words.copies) }
-        ensures copied { OnOk result (self.new.copied ≡ self.old.copied + one_with 2 ask words.copies) }
+        ensures first { self.new.first.items ≡ self.old.first.items ++ came_by ask 0 place time words.copies words.first }
+        ensures second { self.new.second.items ≡ self.old.second.items ++ came_by ask 1 place time words.copies words.second }
+        ensures lost { self.new.lost ≡ self.old.lost + one_with 0 ask words.copies }
+        ensures copied { self.new.copied ≡ self.old.copied + one_with 2 ask words.copies }
     {
         let copies = copies_of(ask, words.copies);
         if copies == 0 {
             self.lost += 1;
-            return Ok(());
+            return;
         }
-        let time_of_first = arrives(ask, time, words.first);
-        self.first.push(Due {
-            time: time_of_first,
+        let first = Due {
+            time: arrives(ask, time, words.first),
             place,
-        })?;
+        };
+        push(&mut self.first, first);
         if copies == 2 {
-            let time_of_second = arrives(ask, time, words.second);
-            self.second.push(Due {
-                time: time_of_second,
+            let second = Due {
+                time: arrives(ask, time, words.second),
                 place,
-            })?;
+            };
+            push(&mut self.second, second);
             self.copied += 1;
         }
-        Ok(())
     }
 }
 
-/// The copies of all records of a store, in the order of the records. All words of a record are drawn, also those that it doesn't need.
-pub(crate) fn lanes_of(alloc: Global, ask: WireSpec, store: &Store) -> Result<Lanes, Memory>
-    requires ask { IsAsk ask }
-    requires few { length store.now ≤ 100000000 }
-    requires early { AllByRecursion (λ (r : Seen). r.time < 2 ^ 63) store.now }
-    ensures first { IfOk result (λ lanes. lanes.first.items ≡ lane ask 0 0 store.now) }
-    ensures second { IfOk result (λ lanes. lanes.second.items ≡ lane ask 1 0 store.now) }
-    ensures lost { IfOk result (λ lanes. lanes.lost ≡ with_copies 0 ask 0 store.now) }
-    ensures copied { IfOk result (λ lanes. lanes.copied ≡ with_copies 2 ask 0 store.now) }
+/// Puts a copy at the end of a lane that has room.
+fn push(lane: &mut Vec<Due>, due: Due)
+    requires { vec_len lane.old < vec_capacity lane.old }
+    ensures items { lane.new.items ≡ lane.old.items ++ due ∷ [] }
 {
-    let mut lanes = Lanes {
-        first: Vec::with_capacity(alloc, store.len())?,
-        second: Vec::new(alloc),
-        lost: 0,
-        copied: 0,
-    };
-    let mut generator = generator_of(ask.seed);
-    let mut place = 0;
-    'records: while let Some(time) = store.time(place) {
-        let words = draw_three(&mut generator);
-        lanes.put(ask, time, place as u64, words)?;
-        place += 1;
-    }
-    Ok(lanes)
+    // It has room, so this never fails.
+    let _pushed = lane.push(due);
 }
 
 /// Puts the copies of a lane in rising order of time, then of record.

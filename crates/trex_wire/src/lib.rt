@@ -6,7 +6,6 @@ mod lanes;
 mod laws;
 mod merge;
 mod spec;
-mod store;
 #[cfg(test)]
 mod tests;
 mod wire;

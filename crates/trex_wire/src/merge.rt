@@ -1,19 +1,20 @@
 // The merge of the two lanes, and the counts of what arrives.
 
 ghost use Rattle.std.specs.Prelude.{◌≡◌, ℕ, ◌+◌, ◌-◌, ◌<◌, ◌≤◌, [], ◌∷◌, ◌++◌, List, length, map, take, slice_get, IfOk, OnOk};
+ghost use Rattle.std.specs.List.{AllByRecursion};
 ghost use Rattle.trex_io.specs.Seen.{Seen};
 ghost use Rattle.trex_merge.specs.Order.{AreDistinct, IsRising, ordered};
 ghost use Rattle.trex_merge.specs.Queues.{at_place, next_of, popped, waiting_at};
 ghost use Rattle.trex_stats.specs.Counts.{StandsFor};
 ghost use Rattle.trex_wire.specs.Lanes.{both, key_in, queue_of, seen_of};
+ghost use Rattle.trex_wire.specs.Sent.{IsShort, glimpse_at};
 ghost use Rattle.trex_wire.specs.Wired.{seen_at, seen_then};
 
 use crate::lanes::Due;
-use crate::store::Store;
 use std::alloc::Global;
 use trex_io::Memory;
 use trex_merge::{Feed, Head, Mill, Next};
-use trex_stats::Stats;
+use trex_stats::{Glimpse, Stats};
 
 /// The copies of a lane that are still to arrive.
 #[derive(Drop)]
@@ -47,14 +48,15 @@ impl<'a> Feed for Lane<'a> {
 }
 
 /// Counts a record as it arrives.
-fn count(stats: &mut Stats, store: &Store, due: Due) -> Result<(), Memory>
-    requires { stats.old.records < 200000000 }
-    ensures stands { OnOk result ((rs : List Seen) → StandsFor stats.old rs
-        → StandsFor stats.new (rs ++ seen_then due.time (slice_get store.now due.place) ∷ [])) }
+fn count(stats: &mut Stats, glimpses: &[Glimpse], due: Due) -> Result<(), Memory>
+    requires few { stats.old.records < 200000000 }
+    requires short { AllByRecursion IsShort glimpses.now }
+    ensures stands { OnOk result ((rs ss : List Seen) → glimpses.now ≡ map glimpse_at rs → StandsFor stats.old ss
+        → StandsFor stats.new (ss ++ seen_then due.time (slice_get rs due.place) ∷ [])) }
     ensures records { OnOk result (stats.new.records ≡ stats.old.records + 1) }
 {
-    match store.body(due.place as usize) {
-        Some(body) => stats.add(due.time, body.bytes, body.original),
+    match glimpses.get(due.place as usize) {
+        Some(glimpse) => stats.count(due.time, *glimpse),
         None => stats.add(due.time, &[], 0),
     }
 }
@@ -62,23 +64,24 @@ fn count(stats: &mut Stats, store: &Store, due: Due) -> Result<(), Memory>
 /// Counts the record that comes next, and takes it from its lane.
 fn pass(
     stats: &mut Stats,
-    store: &Store,
+    glimpses: &[Glimpse],
     mill: &mut Mill,
     lanes: &mut [Lane<'_>],
     feed: usize,
 ) -> Result<(), Memory>
     requires next { next_of (mill.old.limit - mill.old.sent) (map queue_of lanes.old) ≡ Next.Packet feed }
     requires few { stats.old.records < 200000000 }
+    requires short { AllByRecursion IsShort glimpses.now }
     requires two { length lanes.old ≡ 2 }
-    ensures stands { OnOk result ((rs : List Seen) → StandsFor stats.old rs
-        → StandsFor stats.new (rs ++ map (seen_of store.now) (take 1 (waiting_at feed (map queue_of lanes.old))))) }
+    ensures stands { OnOk result ((rs ss : List Seen) → glimpses.now ≡ map glimpse_at rs → StandsFor stats.old ss
+        → StandsFor stats.new (ss ++ map (seen_of rs) (take 1 (waiting_at feed (map queue_of lanes.old))))) }
     ensures records { OnOk result (stats.new.records ≡ stats.old.records + 1) }
     ensures limit { OnOk result (mill.new.limit ≡ mill.old.limit) }
     ensures sent { OnOk result (mill.new.sent ≡ mill.old.sent + 1) }
     ensures queues { OnOk result (map queue_of lanes.new ≡ at_place popped feed (map queue_of lanes.old)) }
 {
     let due = lanes[feed].rest[0];
-    count(stats, store, due)?;
+    count(stats, glimpses, due)?;
     mill.take(lanes, feed);
     Ok(())
 }
@@ -86,15 +89,17 @@ fn pass(
 /// The counts of what arrives in two lanes that are in order, the first copies and the second ones.
 pub(crate) fn merge(
     alloc: Global,
-    store: &Store,
+    glimpses: &[Glimpse],
     first: &[Due],
     second: &[Due],
 ) -> Result<Stats, Memory>
     requires few { length first.now + length second.now ≤ 200000000 }
+    requires short { AllByRecursion IsShort glimpses.now }
     requires distinct { AreDistinct (λ k. k) (both first.now second.now) }
     requires first { IsRising (λ k. k) (map (key_in 0) first.now) }
     requires second { IsRising (λ k. k) (map (key_in 1) second.now) }
-    ensures { IfOk result (λ c. StandsFor c (map (seen_at store.now) (ordered (λ k. k) (both first.now second.now)))) }
+    ensures { IfOk result (λ c. (rs : List Seen) → glimpses.now ≡ map glimpse_at rs
+        → StandsFor c (map (seen_at rs) (ordered (λ k. k) (both first.now second.now)))) }
 {
     let limit = first.len() + second.len();
     let mut mill = Mill::new(limit as u64);
@@ -111,7 +116,7 @@ pub(crate) fn merge(
     let mut stats = Stats::new(alloc);
     'sent: loop {
         match mill.peek(&lanes) {
-            Next::Packet { feed } => pass(&mut stats, store, &mut mill, &mut lanes, feed)?,
+            Next::Packet { feed } => pass(&mut stats, glimpses, &mut mill, &mut lanes, feed)?,
             // Nothing is to come at a lane, so none is waited for.
             Next::Need { .. } => return Ok(stats),
             Next::End => return Ok(stats),

@@ -1,87 +1,121 @@
 // A wire: `Wire::new`, `Wire::send` for each record in order, and then `Wire::measure`.
 
-ghost use Rattle.std.specs.Prelude.{◌≡◌, ◌+◌, ◌^◌, ◌<◌, ◌≤◌, [], ◌∷◌, ◌++◌, length, IfOk, OnOk, OnErr};
+ghost use Rattle.std.specs.Prelude.{◌≡◌, ◌+◌, ◌^◌, ◌<◌, ◌≤◌, [], ◌∷◌, ◌++◌, List, length, IfOk, OnOk, OnErr};
+ghost use Rattle.trex_io.specs.Seen.{Seen};
 ghost use Rattle.trex_stats.specs.Counts.{StandsFor};
+ghost use Rattle.trex_wire.specs.Sent.{Carries};
 ghost use Rattle.trex_wire.specs.Wired.{IsAsk, wire_counts, wired};
 
-use crate::lanes::{lanes_of, sort_lane};
+use crate::lanes::{Lanes, sort_lane};
 use crate::merge::merge;
 use crate::spec::{WireCounts, WireSpec};
-use crate::store::Store;
+use crate::words::{draw_three, generator_of};
+use rand_pcg::Lcg128Xsl64;
 use std::alloc::Global;
 use std::marker::Model;
 use trex_io::Memory;
-use trex_stats::Stats;
+use trex_stats::{Glimpse, Stats};
 
-/// A wire, to which records are sent one after another: `new`, `send` for each record, and at last `measure`. It is seen as what it is
-/// asked and the list of the records.
+/// A wire, to which records are sent one after another: `new`, `send` for each record, and at last `measure`. It keeps what the counts
+/// take of each record, and when its copies arrive.
 #[derive(Drop)]
 pub struct Wire {
     alloc: Global,
     ask: WireSpec,
-    store: Store,
+    generator: Lcg128Xsl64,
+    glimpses: Vec<Glimpse>,
+    lanes: Lanes,
 }
 
 impl Model for Wire {
-    ghost use Rattle.std.specs.Prelude.{◌^◌, ◌<◌, ◌≤◌, length};
+    ghost use Rattle.std.specs.Prelude.{◌≤◌, length};
     ghost use Rattle.std.specs.List.{AllByRecursion};
-    ghost use Rattle.trex_io.specs.Seen.{Seen};
-    ghost use Rattle.trex_wire.specs.Sent.{Sent};
+    ghost use Rattle.trex_wire.specs.Sent.{IsCarried, IsShort, Sent};
     ghost use Rattle.trex_wire.specs.Wired.{IsAsk};
 
     ghost Value = { Sent };
 
-    ghost view = { λ w. record { ask = w.ask; list = w.store } };
+    ghost view = { λ w. record {
+      ask = w.ask;
+      generator = w.generator;
+      glimpses = w.glimpses.items;
+      first = w.lanes.first.items;
+      second = w.lanes.second.items;
+      lost = w.lanes.lost;
+      copied = w.lanes.copied;
+    } };
 
-    ghost invariant = { λ w. IsAsk w.ask × (length w.store ≤ 100000000)
-        × AllByRecursion (λ (r : Seen). r.time < 2 ^ 63) w.store };
+    ghost invariant = { λ w. IsAsk w.ask × (length w.glimpses.items ≤ 100000000) × AllByRecursion IsShort w.glimpses.items
+        × IsCarried (record {
+          ask = w.ask;
+          generator = w.generator;
+          glimpses = w.glimpses.items;
+          first = w.lanes.first.items;
+          second = w.lanes.second.items;
+          lost = w.lanes.lost;
+          copied = w.lanes.copied;
+        }) };
 }
 
 impl Wire {
     /// A wire to which nothing was sent.
     pub fn new(alloc: Global, ask: WireSpec) -> Wire
         requires { IsAsk ask }
-        ensures { result ≡ record { ask = ask; list = [] } }
+        ensures asked { result.ask ≡ ask }
+        ensures carries { Carries result [] }
     {
         Wire {
             alloc,
             ask,
-            store: Store::new(alloc),
+            generator: generator_of(ask.seed),
+            glimpses: Vec::new(alloc),
+            lanes: Lanes::new(alloc),
         }
     }
 
-    /// Sends one more record, of this time in ns, these captured bytes and this original length. Out of memory, the wire is as
-    /// before.
+    /// Sends one more record, of this time in ns, these captured bytes and this original length. All words of the record are drawn, also
+    /// those that it doesn't need. Out of memory, the wire is as before.
     pub fn send(&mut self, time: u64, bytes: &[u8], original: u32) -> Result<(), Memory>
-        requires few { length self.old.list < 100000000 }
+        requires few { length self.old.glimpses < 100000000 }
         requires early { time < 2 ^ 63 }
         requires short { length bytes.now ≤ 262144 }
-        ensures sent { OnOk result (self.new ≡ record self.old {
-          list = self.old.list ++ record { time = time; bytes = bytes.now; original = original } ∷ [];
-        }) }
+        ensures sent { OnOk result ((rs : List Seen) → Carries self.old rs
+            → Carries self.new (rs ++ record { time = time; bytes = bytes.now; original = original } ∷ [])) }
+        ensures asked { OnOk result (self.new.ask ≡ self.old.ask) }
+        ensures kept { OnOk result (length self.new.glimpses ≡ length self.old.glimpses + 1) }
         ensures err { OnErr result (self.new ≡ self.old) }
     {
-        self.store.push(time, bytes, original)
+        self.lanes.make_room()?;
+        let place = self.glimpses.len() as u64;
+        self.glimpses.push(Glimpse::of(bytes, original))?;
+        let words = draw_three(&mut self.generator);
+        self.lanes.put(self.ask, time, place, words);
+        Ok(())
     }
 
     /// What is measured of the records that arrive, and the wire's own numbers.
     pub fn measure(self) -> Result<(Stats, WireCounts), Memory>
-        ensures stands { IfOk result (λ p. StandsFor p.0 (wired self.list self.ask)) }
-        ensures counts { IfOk result (λ p. p.1 ≡ wire_counts self.list self.ask) }
+        ensures stands { IfOk result (λ p. (rs : List Seen) → Carries self rs → StandsFor p.0 (wired rs self.ask)) }
+        ensures counts { IfOk result (λ p. (rs : List Seen) → Carries self rs → p.1 ≡ wire_counts rs self.ask) }
         // What arrives and what is lost make up what was sent and what was copied.
         ensures conserved { IfOk result (λ p. p.1.arrived + p.1.lost ≡ p.1.sent + p.1.copied) }
     {
-        let mut lanes = lanes_of(self.alloc, self.ask, &self.store)?;
+        let Wire {
+            alloc,
+            glimpses,
+            mut lanes,
+            ..
+        } = self;
         sort_lane(&mut lanes.first);
         sort_lane(&mut lanes.second);
         let arrived = lanes.first.len() + lanes.second.len();
         let counts = WireCounts {
-            sent: self.store.len() as u64,
+            sent: glimpses.len() as u64,
             lost: lanes.lost,
             copied: lanes.copied,
             arrived: arrived as u64,
         };
-        let stats = merge(self.alloc, &self.store, &lanes.first, &lanes.second)?;
+        let stats = merge(alloc, &glimpses, &lanes.first, &lanes.second)?;
         Ok((stats, counts))
     }
 }

@@ -1,63 +1,73 @@
-use Rattle.std.proofs.Common.{◌≡◌, ℕ, ◌≤◌, ◌++◌, List, length, take, drop, vec_len, ap, ◌∙◌, arith}
-use Rattle.std.proofs.lemmas.List.{take-append-le, take_all}
+-- Each step by what stood at the front of the bytes.
+use Rattle.std.proofs.Common.{◌≡◌, ℕ, ◌+◌, ◌<◌, ◌≤◌, length, take, drop, Some, Ok, ap, ◌∙◌, [], arith}
+use Rattle.std.proofs.lemmas.Bool.Decides.{nat_tests}
+use Rattle.std.specs.Io.KnownBytes.{prepend_known}
+use Rattle.trex_pcap.specs.declared.fault.CaptureFault.TheVariants.{Torn}
 use Rattle.trex_pcap.specs.Place.{Place}
-use Rattle.trex_measure.proofs.ProgressLemmas.{Progress-record, Progress-end, Progress-fault, exact_kept, exact_fault, sound_fault}
+use Rattle.trex_measure.proofs.ProgressLemmas.{Progress-record, Progress-end, Progress-fault, all_there, front_ends, front_torn, Follows-faulty, Follows-last, Follows-none, Follows-whole, exact_kept, exact_bad, exact_fault, sound_fault}
 use Rattle.trex_measure.proofs.reading.read_into.Goals as goal
 
--- a buffer whose bytes were all lent has those that are given back
-given_back : (bytes old : List ℕ) (n : ℕ) → length bytes ≡ n → take n (bytes ++ drop (length bytes) old) ≡ bytes
-given_back bytes old n long =
-    let within : n ≤ length bytes = omega arith in
-    let whole : length bytes ≤ n = omega arith in
-    take-append-le n bytes (drop (length bytes) old) within ∙ take_all n bytes whole
-
-pub records-preserved : goal.records-preserved
-records-preserved g c =
+-- the fault at the front is the capture's
+pub returns-in-Faulty-clause-sound : goal.returns-in-Faulty-clause-sound
+returns-in-Faulty-clause-sound g c =
     let left = g.S.Source.left in
-    let stands = g.K.Keep.stands in
-    let place = rw c.in-Ok-Some.field-0-is at c.in-Ok-Some.ensures.place in
-    let given = rw c.in-Ok-Some.field-0-is at c.in-Ok-Some.ensures.record in
-    let follows = rw c.in-Ok-Some.field-0-is at c.in-Ok-Some.ensures.follows in
-    let records = ap (λ (p : Place). p.records) place in
-    let live = ap (λ (p : Place). p.live) place in
-    let long : length c.next.new.into ≡ vec_len c.records.buffer = c.next.auto.into ∙ c.deref_mut.ensures.len in
-    let same : c.deref.result.now ≡ c.next.new.into = c.deref.ensures.value ∙ given_back c.next.new.into c.records.buffer.items (vec_len c.records.buffer) long in
-    record {
-      live = live;
-      most = omega (arith, records, given.0, given.1);
-      counted = omega (arith, records, c.in-Ok-take.ensures.kept);
-      mark = c.in-Ok-take.ensures.mark ∙ c.records.invariant.mark;
-      room = c.records.invariant.room;
-      faults = omega (arith, c.in-Ok-Some.ensures.later);
-      progress = Progress-record (left c.args.input.now) (left c.records.input) (left c.next.new.source) c.records.reader c.next.new.self (stands c.records.keep) (stands c.take.new.self)
-          c.in-Ok-Some.record c.next.new.into c.records.invariant.progress follows place (rw same at c.in-Ok-take.ensures.stands);
-    }
+    let stops_there = (rw c.bytes.ensures at c.in-Faulty.ensures).1 in
+    let follows = Follows-faulty c.format-format.result c.records.records c.records.window [] (left c.records.input) (Some []) c.in-Faulty.fault stops_there in
+    let has = Progress-fault (left c.args.input.now) (prepend_known c.records.window (left c.records.input)) (Some []) _ (g.K.Keep.stands c.records.keep) c.in-Faulty.fault [] c.records.invariant.progress follows in
+    rw c.measure_fault-in-Faulty.ensures (sound_fault (left c.args.input.now) c.in-Faulty.fault has)
 
-pub returns-in-Ok-None-clause-counts : goal.returns-in-Ok-None-clause-counts
-returns-in-Ok-None-clause-counts g c =
+pub returns-in-Faulty-clause-exact : goal.returns-in-Faulty-clause-exact
+returns-in-Faulty-clause-exact g c =
     let left = g.S.Source.left in
-    let stands = g.K.Keep.stands in
-    let follows = rw c.in-Ok-None.field-0-is at c.in-Ok-None.ensures.follows in
-    Progress-end (left c.args.input.now) (left c.records.input) (left c.next.new.source) c.records.reader (stands c.records.keep) c.next.new.into c.records.invariant.progress follows
+    let stops_there = (rw c.bytes.ensures at c.in-Faulty.ensures).1 in
+    let follows = Follows-faulty c.format-format.result c.records.records c.records.window [] (left c.records.input) (Some []) c.in-Faulty.fault stops_there in
+    let has = Progress-fault (left c.args.input.now) (prepend_known c.records.window (left c.records.input)) (Some []) _ (g.K.Keep.stands c.records.keep) c.in-Faulty.fault [] c.records.invariant.progress follows in
+    rw c.measure_fault-in-Faulty.ensures (exact_fault g.K.Keep.stands (left c.args.input.now) c.in-Faulty.fault has)
 
-pub returns-in-Ok-None-clause-exact : goal.returns-in-Ok-None-clause-exact
-returns-in-Ok-None-clause-exact g c =
+-- nothing is left, and nothing stood there
+pub returns-then-is_empty-clause-counts : goal.returns-then-is_empty-clause-counts
+returns-then-is_empty-clause-counts g c =
     let left = g.S.Source.left in
-    let stands = g.K.Keep.stands in
-    let follows = rw c.in-Ok-None.field-0-is at c.in-Ok-None.ensures.follows in
-    exact_kept stands (left c.args.input.now) c.records.keep
-    (Progress-end (left c.args.input.now) (left c.records.input) (left c.next.new.source) c.records.reader (stands c.records.keep) c.next.new.into c.records.invariant.progress follows)
+    let short = (rw c.bytes.ensures at c.in-Short.ensures).1 in
+    let all = all_there (left c.records.input) (left c.refill.new.source) c.records.window c.refill.new.self c.in-Ok-refill.count c.in-Ok-refill.ensures.more (omega arith) in
+    let none : length c.refill.new.self ≡ 0 = grind (arith, nat_tests) in
+    let follows = Follows-none c.format-format.result c.records.records c.records.window [] (left c.records.input) all.0
+    (front_ends c.format-format.result c.records.records c.records.window short (omega (arith, all.1, none))) in
+    Progress-end (left c.args.input.now) (prepend_known c.records.window (left c.records.input)) (Some []) _ (g.K.Keep.stands c.records.keep) [] c.records.invariant.progress follows
 
-pub returns-in-Err-next-clause-sound : goal.returns-in-Err-next-clause-sound
-returns-in-Err-next-clause-sound g c =
+pub returns-then-is_empty-clause-exact : goal.returns-then-is_empty-clause-exact
+returns-then-is_empty-clause-exact g c =
     let left = g.S.Source.left in
-    let stands = g.K.Keep.stands in
-    let has = Progress-fault (left c.args.input.now) (left c.records.input) (left c.next.new.source) c.records.reader (stands c.records.keep) c.in-Err-next.fault c.next.new.into c.records.invariant.progress c.in-Err-next.ensures.follows in
-    rw c.measure_fault-in-Err-next.ensures (sound_fault (left c.args.input.now) c.in-Err-next.fault has)
+    let short = (rw c.bytes.ensures at c.in-Short.ensures).1 in
+    let all = all_there (left c.records.input) (left c.refill.new.source) c.records.window c.refill.new.self c.in-Ok-refill.count c.in-Ok-refill.ensures.more (omega arith) in
+    let none : length c.refill.new.self ≡ 0 = grind (arith, nat_tests) in
+    let follows = Follows-none c.format-format.result c.records.records c.records.window [] (left c.records.input) all.0
+    (front_ends c.format-format.result c.records.records c.records.window short (omega (arith, all.1, none))) in
+    exact_kept g.K.Keep.stands (left c.args.input.now) c.records.keep
+    (Progress-end (left c.args.input.now) (prepend_known c.records.window (left c.records.input)) (Some []) _ (g.K.Keep.stands c.records.keep) [] c.records.invariant.progress follows)
 
-pub returns-in-Err-next-clause-exact : goal.returns-in-Err-next-clause-exact
-returns-in-Err-next-clause-exact g c =
+-- nothing is left behind a part of a record
+pub returns-then-count-eq0-clause-sound : goal.returns-then-count-eq0-clause-sound
+returns-then-count-eq0-clause-sound g c =
     let left = g.S.Source.left in
-    let stands = g.K.Keep.stands in
-    let has = Progress-fault (left c.args.input.now) (left c.records.input) (left c.next.new.source) c.records.reader (stands c.records.keep) c.in-Err-next.fault c.next.new.into c.records.invariant.progress c.in-Err-next.ensures.follows in
-    rw c.measure_fault-in-Err-next.ensures (exact_fault stands (left c.args.input.now) c.in-Err-next.fault has)
+    let short = (rw c.bytes.ensures at c.in-Short.ensures).1 in
+    let all = all_there (left c.records.input) (left c.refill.new.source) c.records.window c.refill.new.self c.in-Ok-refill.count c.in-Ok-refill.ensures.more (omega arith) in
+    let some : 0 < length c.refill.new.self = grind (arith, nat_tests) in
+    let follows = Follows-last c.format-format.result c.records.records c.records.window [] (left c.records.input) (Torn (c.records.records + 1)) all.0
+    (front_torn c.format-format.result c.records.records c.records.window short (omega (arith, all.1, some))) in (
+      tt,
+      Progress-fault (left c.args.input.now) (prepend_known c.records.window (left c.records.input)) (Some []) _ (g.K.Keep.stands c.records.keep) (Torn (c.records.records + 1)) []
+          c.records.invariant.progress follows tt,
+    )
+
+pub returns-then-count-eq0-clause-exact : goal.returns-then-count-eq0-clause-exact
+returns-then-count-eq0-clause-exact g c =
+    let left = g.S.Source.left in
+    let short = (rw c.bytes.ensures at c.in-Short.ensures).1 in
+    let all = all_there (left c.records.input) (left c.refill.new.source) c.records.window c.refill.new.self c.in-Ok-refill.count c.in-Ok-refill.ensures.more (omega arith) in
+    let some : 0 < length c.refill.new.self = grind (arith, nat_tests) in
+    let follows = Follows-last c.format-format.result c.records.records c.records.window [] (left c.records.input) (Torn (c.records.records + 1)) all.0
+    (front_torn c.format-format.result c.records.records c.records.window short (omega (arith, all.1, some))) in
+    exact_bad g.K.Keep.stands (left c.args.input.now) (Torn (c.records.records + 1))
+    (Progress-fault (left c.args.input.now) (prepend_known c.records.window (left c.records.input)) (Some []) _ (g.K.Keep.stands c.records.keep) (Torn (c.records.records + 1)) []
+    c.records.invariant.progress follows tt)

@@ -1,17 +1,17 @@
-use Rattle.std.proofs.Common.{◌≡◌, ◌-◌, ◌≤◌, true, vec_len}
+use Rattle.std.proofs.Common.{◌≡◌, ◌+◌, ◌*◌, ◌-◌, ◌≤◌, true, length}
+use Rattle.std.specs.Io.KnownBytes.{prepend_known}
 use Rattle.trex_measure.proofs.ProgressLemmas.{Progress}
 use Rattle.trex_measure.proofs.reading.read_into.Given as goal
 
 abbrev pub invariant-records : goal.invariant-records
 invariant-records g l = record {
-  live : l.reader.live ≡ true;
-  most : l.reader.records ≤ 100000000;
-  counted : g.K.Keep.kept l.keep ≡ l.reader.records;
+  most : l.records ≤ 100000000;
+  counted : g.K.Keep.kept l.keep ≡ l.records;
   mark : g.K.Keep.mark l.keep ≡ g.K.Keep.mark l.fn.keep;
-  room : vec_len l.buffer ≡ 262144;
   faults : g.S.Source.faults l.fn.input ≤ g.S.Source.faults l.input;
-  progress : Progress (g.S.Source.left l.fn.input) (g.S.Source.left l.input) l.reader (g.K.Keep.stands l.keep);
+  progress : Progress (g.S.Source.left l.fn.input) (prepend_known l.window (g.S.Source.left l.input)) (record { format = l.format; records = l.records; live = true })
+      (g.K.Keep.stands l.keep);
 }
 
 abbrev pub decreases-records : goal.decreases-records
-decreases-records g l = 100000000 - l.reader.records
+decreases-records g l = (100000000 - l.records) * 1048576 + (327696 - length l.window)

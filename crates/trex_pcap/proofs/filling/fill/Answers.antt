@@ -1,16 +1,8 @@
 -- A read puts what it gives behind what came before.
 use Rattle.std.proofs.Common.{◌≡◌, ℕ, ◌+◌, ◌-◌, ◌≤◌, List, ◌++◌, length, take, drop, sym, ap, ◌∙◌, arith, rules}
-use Rattle.std.proofs.Math.Seq.{take-append-add}
-use Rattle.std.proofs.lemmas.List.{take-append-le, length-take-le}
 use Rattle.std.proofs.KnownBytes.{Consumes-trans}
+use Rattle.trex_pcap.proofs.FillingLemmas.{front_grows}
 use Rattle.trex_pcap.proofs.filling.fill.Goals as goal
-
-front_grows : (into new post : List ℕ) (done n : ℕ) → done ≤ length into → n ≤ length new
-    → take (done + n) (take done into ++ (new ++ post)) ≡ take done into ++ take n new
-front_grows into new post done n within fits =
-    ap (λ d. take (d + n) (take done into ++ (new ++ post))) (sym (length-take-le done into within))
-    ∙ take-append-add (take done into) (new ++ post) n
-    ∙ ap (λ l. take done into ++ l) (take-append-le n new post fits)
 
 pub loop-done-preserved : goal.loop-done-preserved
 loop-done-preserved g c =

@@ -8,19 +8,19 @@ pub sent-init : goal.sent-init
 sent-init c = record {
   limit = c.new-mill.ensures.limit;
   two = refl;
-  at = rw c.new-mill.ensures.sent (begun c.args.first.now c.args.second.now c.args.store.now c.new-mill.result.limit c.new-stats.result c.requires.distinct c.requires.first c.requires.second c.new-stats.ensures.stands c.new-stats.ensures.records);
+  at = rw c.new-mill.ensures.sent (begun c.args.first.now c.args.second.now c.args.glimpses.now c.new-mill.result.limit c.new-stats.result c.requires.distinct c.requires.first c.requires.second c.new-stats.ensures.stands c.new-stats.ensures.records);
 }
 
 pub sent-preserved : goal.sent-preserved
 sent-preserved c =
     let passed = c.in_ok-pass-in-Packet.ensures in
-    let more = one_more (map frame_at (both c.args.first.now c.args.second.now)) c.args.store.now (map queue_of c.sent.lanes) c.sent.mill.sent c.sent.mill.limit c.in-Packet.feed
+    let more = one_more (map frame_at (both c.args.first.now c.args.second.now)) c.args.glimpses.now (map queue_of c.sent.lanes) c.sent.mill.sent c.sent.mill.limit c.in-Packet.feed
     c.sent.stats c.pass.new.stats c.sent.invariant.at (sym c.in-Packet.ensures) passed.stands passed.records in
     record { limit = passed.limit ∙ c.sent.invariant.limit; two = c.pass.auto.lanes ∙ c.sent.invariant.two; at = rw (passed.queues, passed.sent, passed.limit) more }
 
 pub returns-in-Need : goal.returns-in-Need
 returns-in-Need c =
-    absurd (none_needed (map frame_at (both c.args.first.now c.args.second.now)) c.args.store.now (map queue_of c.sent.lanes) c.sent.mill.sent c.sent.mill.limit c.in-Need.core c.sent.stats
+    absurd (none_needed (map frame_at (both c.args.first.now c.args.second.now)) c.args.glimpses.now (map queue_of c.sent.lanes) c.sent.mill.sent c.sent.mill.limit c.in-Need.core c.sent.stats
     c.sent.invariant.at (sym c.in-Need.ensures))
 
 pub returns-in-End : goal.returns-in-End
@@ -29,4 +29,4 @@ returns-in-End c =
     let second = c.args.second.now in
     let enough : c.sent.mill.limit ≡ length (both first second) =
     omega (arith, c.sent.invariant.limit, length-append (map (key_in 0) first) (map (key_in 1) second), length-map first (key_in 0), length-map second (key_in 1)) in
-    all_sent (both first second) c.args.store.now (map queue_of c.sent.lanes) c.sent.mill.sent c.sent.mill.limit c.sent.stats enough c.sent.invariant.at (sym c.in-End.ensures)
+    all_sent (both first second) c.args.glimpses.now (map queue_of c.sent.lanes) c.sent.mill.sent c.sent.mill.limit c.sent.stats enough c.sent.invariant.at (sym c.in-End.ensures)

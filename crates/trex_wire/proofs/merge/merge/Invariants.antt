@@ -7,7 +7,7 @@ abbrev pub invariant-sent : goal.invariant-sent
 invariant-sent l = record {
   limit : l.mill.limit ≡ length l.fn.first + length l.fn.second;
   two : length l.lanes ≡ 2;
-  at : IsAt (map frame_at (both l.fn.first l.fn.second)) l.fn.store (map queue_of l.lanes) l.mill.sent l.mill.limit l.stats;
+  at : IsAt (map frame_at (both l.fn.first l.fn.second)) l.fn.glimpses (map queue_of l.lanes) l.mill.sent l.mill.limit l.stats;
 }
 
 abbrev pub decreases-sent : goal.decreases-sent

@@ -30,7 +30,7 @@ bounds-lanes-0 c =
     omega (arith, waits, length-map lane.rest.now (λ due. frame_at (key_in lane.copy due)))
 
 pub returns-clause-stands : goal.returns-clause-stands
-returns-clause-stands c rs stood =
+returns-clause-stands c rs ss kept stood =
     let least = packet_is_least (c.args.mill.now.limit - c.args.mill.now.sent) c.args.feed (map queue_of c.args.lanes.now) c.requires.next in
     let within = feed_within queue_of c.args.lanes.now c.args.feed (least.frame ∷ least.rest) least.there in
     let d : Lane = record { copy = 0; rest = record { ref_ptr = (0, 0); now = [] } } in
@@ -38,5 +38,5 @@ returns-clause-stands c rs stood =
     let lane = get_or c.args.lanes.now c.args.feed d in
     let waits = feed_waits queue_of c.args.lanes.now c.args.feed d least.frame least.rest least.there in
     let some : 0 < length lane.rest.now = omega (arith, waits, length-map lane.rest.now (λ due. frame_at (key_in lane.copy due))) in
-    subst (λ (l : List Frame). StandsFor c.count.new.stats (rs ++ map (seen_of c.args.store.now) l)) (sym (lane_first c.args.lanes.now c.args.feed d e some within))
-    (c.in_ok-count.ensures.stands rs stood)
+    subst (λ (l : List Frame). StandsFor c.count.new.stats (ss ++ map (seen_of rs) l)) (sym (lane_first c.args.lanes.now c.args.feed d e some within))
+    (c.in_ok-count.ensures.stands rs ss kept stood)

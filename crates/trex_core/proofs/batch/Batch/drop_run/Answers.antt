@@ -1,6 +1,6 @@
-use Rattle.std.proofs.Common.{◌≡◌, ◌+◌, ◌≤◌, List, drop, take, length, length-drop, sym, ap, ◌∙◌, arith}
+use Rattle.std.proofs.Common.{◌≡◌, ◌≤◌, List, drop, take, length, length-drop, sym, ap, ◌∙◌, arith}
 use Rattle.trex_merge.specs.Frames.{Frame}
-use Rattle.trex_core.specs.Records.{AreBatch, BatchView, frames_of, text_length}
+use Rattle.trex_core.specs.Records.{BatchView, text_length}
 use Rattle.trex_core.specs.Texts.{records_text}
 use Rattle.trex_core.proofs.Records.{batch_behind, batch_long, length-first_records}
 use Rattle.trex_core.proofs.batch.Batch.drop_run.Goals as goal

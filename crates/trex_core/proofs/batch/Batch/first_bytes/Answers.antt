@@ -1,4 +1,4 @@
-use Rattle.std.proofs.Common.{◌≡◌, ◌+◌, ◌<◌, ◌≤◌, ℕ, Some, List, drop, take, length, length-drop, slice_get, sym, ap, ◌∙◌, arith}
+use Rattle.std.proofs.Common.{◌+◌, ◌<◌, ℕ, Some, List, drop, take, length, length-drop, slice_get, sym, ap, ◌∙◌, arith}
 use Rattle.std.specs.Option.{option_map}
 use Rattle.trex_merge.specs.Frames.{Frame}
 use Rattle.trex_core.specs.declared.batch.TheConstants.{RECORD_HEADER}

@@ -1,4 +1,4 @@
-use Rattle.std.proofs.Common.{◌≡◌, ◌-◌, ◌+◌, ◌*◌, ◌&&◌, nat_lt, nat_le, drop, length, length-drop, sym, ap, ◌∙◌, subst, arith}
+use Rattle.std.proofs.Common.{◌≡◌, ◌-◌, ◌+◌, ◌*◌, ◌&&◌, nat_lt, nat_le, drop, length, length-drop, ap, ◌∙◌, subst, arith}
 use Rattle.trex_core.specs.declared.batch.TheConstants.{BATCH_PACKETS, BATCH_BYTES, RECORD_HEADER}
 use Rattle.trex_core.specs.Batches.{IsWithin, bytes_of, has_room_for}
 use Rattle.trex_core.specs.Records.{BatchView, frames_of}

@@ -1,8 +1,3 @@
-use Rattle.std.proofs.Common.{◌≡◌, ◌<◌, Some, List, [], ◌∷◌, length, slice_get, sym, ap, ◌∙◌, arith}
-use Rattle.std.specs.Option.{option_map}
-use Rattle.trex_merge.specs.declared.key.Key.{Key}
-use Rattle.trex_merge.specs.Frames.{Frame, key_of}
-use Rattle.trex_core.specs.Records.{frame_with}
 use Rattle.trex_core.proofs.Records.{first_of, some_first}
 use Rattle.trex_core.proofs.batch.Batch.head.Goals as goal
 

@@ -1,9 +1,9 @@
-use Rattle.std.proofs.Common.{◌≡◌, ◌+◌, ◌<◌, ℕ, suc, List, [], ◌∷◌, drop, take, get_or, length, length-drop, refl, sym, ap, ◌∙◌, arith}
+use Rattle.std.proofs.Common.{◌≡◌, ◌+◌, ◌<◌, ℕ, suc, List, [], ◌∷◌, drop, take, get_or, length, length-drop, sym, ap, ◌∙◌, arith}
 use Rattle.std.proofs.Math.Seq.{drop-cons}
 use Rattle.trex_core.specs.declared.batch.TheConstants.{RECORD_HEADER}
 use Rattle.trex_core.specs.declared.waiting.Waiting.{Waiting}
 use Rattle.trex_merge.specs.Frames.{Frame}
-use Rattle.trex_core.specs.Records.{AreBatch, BatchView, frames_of, text_length}
+use Rattle.trex_core.specs.Records.{BatchView, text_length}
 use Rattle.trex_core.proofs.Records.{batch_behind, batch_long}
 use Rattle.trex_core.proofs.batch.Batch.pop.Goals as goal
 

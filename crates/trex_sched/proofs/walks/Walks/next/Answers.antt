@@ -5,69 +5,61 @@ use Rattle.std.specs.List.{AllByRecursion, slice_get}
 use Rattle.trex_merge.specs.Order.{AreDistinct, IsRising, joined, ordered}
 use Rattle.trex_sched.specs.declared.slot.Slot.{Slot}
 use Rattle.trex_sched.specs.Entries.{key_of}
-use Rattle.trex_sched.specs.Heads.{AreHeads}
-use Rattle.trex_sched.proofs.Heads.{all_empty, BeginsAt, begins_at, head_goes, heads_shuffled, no_items}
+use Rattle.trex_sched.proofs.Heads.{BeginsAt, first_goes, none_first, some_first}
 use Rattle.trex_sched.proofs.walks.Walks.next.Goals as goal
 
 -- without a head nothing is left
 nothing_left : (c : goal.After-from_residual) → ordered key_of (joined c.self.inside.walks.items) ≡ []
 nothing_left c =
-    let lists = c.self.inside.walks.items in
-    let heads = heap_items c.self.inside.heads in
-    let empty : heads ≡ [] = no_items heads (let len = c.in_err-head.ensures.none in let whole = c.self.inside.heads.data.ok in omega arith) in
-    ap (ordered key_of) (c.least_goes_first.ensures.none lists (all_empty lists (subst (AreHeads lists) empty c.self.invariant.known)))
+    let s = c.self.inside in
+    let at = c.self.invariant in
+    ap (ordered key_of) (c.least_goes_first.ensures.none s.walks.items (none_first s.walks.items s.first (heap_items s.others) c.in_err-head.was at.known at.least))
 
 pub returns-in_err-head-clause-slot : goal.returns-in_err-head-clause-slot
 returns-in_err-head-clause-slot c =
     c.from_residual.ensures ∙ sym (ap (λ (l : List Slot). slice_get l 0) (sym c.self.view_is ∙ nothing_left c))
 
 pub returns-in_err-head-clause-rest : goal.returns-in_err-head-clause-rest
-returns-in_err-head-clause-rest c = nothing_left c ∙ sym (ap (drop 1) (sym c.self.view_is ∙ nothing_left c))
+returns-in_err-head-clause-rest c = sym c.self.view_is ∙ nothing_left c ∙ sym (ap (drop 1) (sym c.self.view_is ∙ nothing_left c))
 
 pub take_next-requires-clause-place : goal.take_next-requires-clause-place
 take_next-requires-clause-place c =
-    let lists = c.self.inside.walks.items in
-    let x = c.in_ok-head.field-0 in
-    let known = heads_shuffled lists _ (x ∷ heap_items c.pop.new.self) c.in_ok-head.ensures.permutation c.self.invariant.known in
-    let within = slice_get_within lists x.0.place _ known.each.0.there in
-    let whole = c.self.inside.walks.ok in
+    let s = c.self.inside in
+    let begin = some_first s.walks.items s.first (heap_items s.others) c.in_ok-head.head c.in_ok-head.was c.self.invariant.known c.self.invariant.least in
+    let within = slice_get_within s.walks.items c.in_ok-head.head.place _ begin.there in
+    let whole = s.walks.ok in
     omega arith
 
 pub take_next-requires-clause-others : goal.take_next-requires-clause-others
 take_next-requires-clause-others c =
-    let lists = c.self.inside.walks.items in
-    let x = c.in_ok-head.field-0 in
-    let known = heads_shuffled lists _ (x ∷ heap_items c.pop.new.self) c.in_ok-head.ensures.permutation c.self.invariant.known in
-    head_goes lists x (heap_items c.pop.new.self) known
+    let s = c.self.inside in
+    first_goes s.walks.items s.first (heap_items s.others) c.in_ok-head.head c.in_ok-head.was c.self.invariant.known
 
 -- the walk that is passed begins with the first packet of all
-least : (c : goal.After-take_next) → BeginsAt c.self.inside.walks.items c.in_ok-head.field-0.0.place
+least : (c : goal.After-take_next) → BeginsAt c.self.inside.walks.items c.in_ok-head.head.place
 least c =
-    let lists = c.self.inside.walks.items in
-    let heads = heap_items c.self.inside.heads in
-    let x = c.in_ok-head.field-0 in
-    let known = heads_shuffled lists heads (x ∷ heap_items c.pop.new.self) c.in_ok-head.ensures.permutation c.self.invariant.known in
-    begins_at lists x heads c.self.invariant.known known.each.0 (c.in_ok-head.ensures.heap_order c.self.invariant.heap).1
+    let s = c.self.inside in
+    some_first s.walks.items s.first (heap_items s.others) c.in_ok-head.head c.in_ok-head.was c.self.invariant.known c.self.invariant.least
 
-list_is : (c : goal.After-take_next) → get_or c.self.inside.walks.items c.in_ok-head.field-0.0.place [] ≡ (least c).slot ∷ (least c).rest
+list_is : (c : goal.After-take_next) → get_or c.self.inside.walks.items c.in_ok-head.head.place [] ≡ (least c).slot ∷ (least c).rest
 list_is c =
-    get_or_from_slice_get c.self.inside.walks.items c.in_ok-head.field-0.0.place ((least c).slot ∷ (least c).rest) [] (least c).there
+    get_or_from_slice_get c.self.inside.walks.items c.in_ok-head.head.place ((least c).slot ∷ (least c).rest) [] (least c).there
 
-walks_are : (c : goal.After-take_next) → c.take_next.new.walks.items ≡ set c.self.inside.walks.items c.in_ok-head.field-0.0.place (least c).rest
+walks_are : (c : goal.After-take_next) → c.take_next.new.walks.items ≡ set c.self.inside.walks.items c.in_ok-head.head.place (least c).rest
 walks_are c =
-    c.take_next.ensures.walks ∙ ap (λ (l : List Slot). set c.self.inside.walks.items c.in_ok-head.field-0.0.place (drop 1 l)) (list_is c)
+    c.take_next.ensures.walks ∙ ap (λ (l : List Slot). set c.self.inside.walks.items c.in_ok-head.head.place (drop 1 l)) (list_is c)
 
 now_is : (c : goal.After-take_next)
-    → c.args.self.now ≡ (least c).slot ∷ ordered key_of (joined (set c.self.inside.walks.items c.in_ok-head.field-0.0.place (least c).rest))
+    → c.args.self.now ≡ (least c).slot ∷ ordered key_of (joined (set c.self.inside.walks.items c.in_ok-head.head.place (least c).rest))
 now_is c =
     sym c.self.view_is
-    ∙ c.least_goes_first.ensures.first c.self.inside.walks.items c.in_ok-head.field-0.0.place (least c).slot (least c).rest (least c).there
+    ∙ c.least_goes_first.ensures.first c.self.inside.walks.items c.in_ok-head.head.place (least c).slot (least c).rest (least c).there
     c.self.invariant.rising c.self.invariant.distinct (least c).least
 
-pub invariant_of-self-2 : goal.invariant_of-self-2
-invariant_of-self-2 c =
+pub invariant_of-self : goal.invariant_of-self
+invariant_of-self c =
     let lists = c.self.inside.walks.items in
-    let place = c.in_ok-head.field-0.0.place in
+    let place = c.in_ok-head.head.place in
     let slot = (least c).slot in
     let rest = (least c).rest in
     let laws = c.least_goes_first.ensures in
@@ -75,6 +67,7 @@ invariant_of-self-2 c =
       rising = subst (AllByRecursion (IsRising key_of)) (sym (walks_are c)) (laws.rising lists place slot rest (least c).there c.self.invariant.rising);
       distinct = subst (λ (l : List (List Slot)). AreDistinct key_of (joined l)) (sym (walks_are c)) (laws.distinct lists place slot rest (least c).there c.self.invariant.distinct);
       known = c.take_next.ensures.known;
+      least = c.take_next.ensures.least;
       heap = c.take_next.ensures.heap;
     }
 

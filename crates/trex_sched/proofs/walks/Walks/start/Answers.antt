@@ -6,7 +6,7 @@ use Rattle.trex_sched.specs.declared.slot.Slot.{Slot}
 use Rattle.trex_sched.specs.Chain.{chain_of, IsChain}
 use Rattle.trex_sched.specs.Entries.{key_of}
 use Rattle.trex_sched.specs.Walks.{all_entries}
-use Rattle.trex_sched.proofs.Heads.{all_at_place}
+use Rattle.trex_sched.proofs.Heads.{all_at_place, heads_shuffled}
 use Rattle.trex_sched.proofs.Shares.{all_distinct, each_is, joined_shares, share_of, shares_distinct, shares_rise}
 use Rattle.trex_sched.proofs.walks.Walks.start.Goals as goal
 
@@ -16,12 +16,12 @@ start-walk-requires-clause-chain c =
     (each_is c.args.chains.now c.requires.chains)
 
 -- there is a walk for each chain
-walks_are : (c : goal.After-loop-chain) → c.loop-chain.walks.items ≡ map (share_of c.args.core c.args.cores c.args.duration) c.args.chains.now
+walks_are : (c : goal.After-take_least-first) → c.loop-chain.walks.items ≡ map (share_of c.args.core c.args.cores c.args.duration) c.args.chains.now
 walks_are c =
     c.loop-chain.invariant.2
     ∙ ap (map (share_of c.args.core c.args.cores c.args.duration)) (take_all c.loop-chain.chain-index c.args.chains.now c.loop-chain-test.false)
 
-distinct : (c : goal.After-loop-chain) → AreDistinct key_of (all_entries (map chain_of c.args.chains.now) c.args.duration)
+distinct : (c : goal.After-take_least-first) → AreDistinct key_of (all_entries (map chain_of c.args.chains.now) c.args.duration)
 distinct c =
     all_distinct (map chain_of c.args.chains.now) c.args.duration c.requires.chains c.requires.streams
     (λ chain is. c.entries_rise.ensures.streams chain c.args.duration is) (λ chain is. c.entries_rise.ensures.distinct chain c.args.duration is)
@@ -36,8 +36,9 @@ invariant_of-result c =
       rising = subst (AllByRecursion (IsRising key_of)) (sym (walks_are c))
           (shares_rise core cores d chains c.requires.chains (λ chain is. c.entries_rise.ensures.shares chain core cores d is));
       distinct = subst (λ (l : List (List Slot)). AreDistinct key_of (joined l)) (sym (walks_are c)) (shares_distinct core cores d chains (distinct c));
-      known = c.loop-chain.invariant.0;
-      heap = c.loop-chain.invariant.1;
+      known = heads_shuffled c.loop-chain.walks.items _ _ c.take_least-first.ensures.heads c.loop-chain.invariant.0;
+      least = c.take_least-first.ensures.least;
+      heap = c.take_least-first.ensures.heap;
     }
 
 pub returns : goal.returns

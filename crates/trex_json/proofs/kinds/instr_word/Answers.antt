@@ -1,0 +1,6 @@
+use Rattle.std.proofs.Common.{◌∙◌, ap, option_and_then}
+use Rattle.trex_json.specs.Kinds.{instr_of_word}
+use Rattle.trex_json.proofs.kinds.instr_word.Goals as goal
+
+pub returns : goal.returns
+returns c = c.instr_of_word.ensures ∙ ap (option_and_then instr_of_word) c.in_ok-as_str.ensures
