@@ -1,5 +1,5 @@
 -- A run of packets: what is sent of it, and what stays true of the run of the profile.
-use Rattle.std.proofs.Common.{◌≡◌, ℕ, zero, suc, ◌+◌, ◌-◌, ◌≤◌, ◌<◌, true, false, Bool, cond, None, Option, ◌⊎◌, inl, inr, List, [], ◌∷◌, ◌++◌, append_assoc, append-nil, length, map, take, drop, replicate, refl, sym, ap, ◌∙◌, subst, arith, Some, length-append, length-take, get_or, set}
+use Rattle.std.proofs.Common.{◌≡◌, ℕ, zero, suc, ◌+◌, ◌-◌, ◌≤◌, ◌<◌, true, false, cond, None, Option, ◌⊎◌, inl, inr, List, [], ◌∷◌, ◌++◌, append_assoc, append-nil, length, map, take, drop, replicate, refl, sym, ap, ◌∙◌, subst, arith, Some, length-append, length-take, get_or}
 use Rattle.std.proofs.lemmas.Bool.{cases_lt, false≢true}
 use Rattle.std.proofs.lemmas.List.{drop_at, drop-map, drop-take, length-map, length-take-le}
 use Rattle.std.proofs.Math.Seq.{take-add, take-append_seam}
@@ -28,9 +28,9 @@ use Rattle.trex_core.specs.Texts.{records_text}
 use Rattle.trex_merge.proofs.QueueLemmas.{packet_is_least}
 use Rattle.trex_run.specs.Ready.{HaveBase, IsReady, base_at, marks_of, queues_of, run_at}
 use Rattle.trex_run.specs.Rounds.{EnteredAfter, HasKeptUp, IsEnoughRounds, TellRounds}
-use Rattle.trex_run.specs.State.{IsPass, IsShort, RunState, ahead, all_of}
-use Rattle.trex_run.specs.Step.{earlier_key, is_packet, mill_after, packet_ahead, passed, reached, rounds_after, supplied, works_after}
-use Rattle.trex_run.specs.Tallies.{all_counted, counted}
+use Rattle.trex_run.specs.State.{IsPass, IsShort, ahead}
+use Rattle.trex_run.specs.Step.{earlier_key, is_packet, mill_after, packet_ahead, passed, rounds_after, supplied, works_after}
+use Rattle.trex_run.specs.Tallies.{all_counted}
 use Rattle.trex_run.proofs.HeadLemmas.{waits_within}
 use Rattle.trex_run.proofs.BaseLemmas.{base_is}
 use Rattle.trex_run.proofs.ListLemmas.{all_take, take_split}
@@ -102,7 +102,7 @@ run_is frames queues sent limit at many before mill within next others few =
     let kept = subst (IsMill frames) e (run_keeps frames state (replicate many Emit) mill) in
     let fits = run_within before (limit - sent) waiting in
     let more = many_more all (take sent all) (take many waiting) (ordered key_of (joined (map stem (at_place (dropped many) at queues)))) sent many long
-        (length-take-le many waiting (omega arith)) kept.whole in
+    (length-take-le many waiting (omega arith)) kept.whole in
     record {
       state = e ∙ ap (λ (list : List Frame). record { queues = at_place (dropped many) at queues; sent = list; limit = limit }) more.0;
       within = more.1;
@@ -151,7 +151,7 @@ after_run frames works works' rounds limit sent sent' at many before next' ready
     let state : MillState = mill_after frames (queues_of works) sent limit in
     let gone = run_is frames (queues_of works) sent limit at many before ready.is ready.counted (sym ready.next_is) others few in
     let now : IsMill frames (mill_after frames (queues_of works') sent' limit) =
-        rw (queues, count) (subst (IsMill frames) gone.state (run_keeps frames state (replicate many Emit) ready.is)) in
+    rw (queues, count) (subst (IsMill frames) gone.state (run_keeps frames state (replicate many Emit) ready.is)) in
     let counted : sent' ≤ length (ordered key_of frames) = rw count gone.within in
     let rounds_before = ready.rounds_are in
     let cores = cores_by_marks works' works marks in
@@ -200,9 +200,9 @@ past frames works between works' rounds limit sent sent' at many before after ne
     let sends = after_run frames works between rounds limit sent sent' at many before after ready others some few queues marks count is in
     let step = after_supply frames between works' rounds (rounds_after after rounds) limit sent' after next sends works_are refl is' in
     let state : run (replicate many Emit) (mill_after frames (queues_of works) sent limit) ≡ mill_after frames (queues_of between) sent' limit =
-        gone.state ∙ rw (queues, count) refl in
+    gone.state ∙ rw (queues, count) refl in
     let coming_then : next_in (mill_after frames (queues_of between) sent' limit) ≡ after =
-        next_is frames (queues_of between) sent' limit sends.ready.counted ∙ sym is in
+    next_is frames (queues_of between) sent' limit sends.ready.counted ∙ sym is in
     let most = run_most before (limit - sent) (waiting_at at (queues_of works)) in
     let below = sent_within frames works rounds limit sent (Packet at) ready in
     let fits : sent + many ≤ limit = omega (arith, most, below, few) in
@@ -432,8 +432,8 @@ is_found frames works seen read rounds limit sent at left before packets next re
     let here : IsReady frames works rounds limit sent (Packet at) = subst (IsReady frames works rounds limit sent) is ready in
     let there : IsLeastElsewhere at before (queues_of works) = subst (λ (w : List Work). IsLeastElsewhere at before (queues_of w)) seen_is elsewhere in
     let are : packets ≡ map waiting_of (run_at at before (limit - sent) (queues_of works)) =
-        packets_are ∙ ap (λ (w : List Work). map waiting_of (run_at at before left (queues_of w))) read_is
-        ∙ ap (λ n. map waiting_of (run_at at before n (queues_of works))) left_is in
+    packets_are ∙ ap (λ (w : List Work). map waiting_of (run_at at before left (queues_of w))) read_is
+    ∙ ap (λ n. map waiting_of (run_at at before n (queues_of works))) left_is in
     let many = run_many before (limit - sent) at (queues_of works) packets are in
     let some = some_packets frames works rounds limit sent at before here there in
     let most = run_most before (limit - sent) (waiting_at at (queues_of works)) in
@@ -456,7 +456,7 @@ found_ahead : (frames : List Frame) (works : List Work) (rounds limit sent at : 
 found_ahead frames works rounds limit sent at before packets found =
     let many = found.many in
     let gone = run_is frames (queues_of works) sent limit at (length packets) before found.ready.is found.ready.counted (sym found.ready.next_is)
-        found.elsewhere.least (omega (arith, many)) in
+    found.elsewhere.least (omega (arith, many)) in
     ap (λ n. take n (waiting_at at (queues_of works))) (sym many)
     ∙ run_frames (ordered key_of frames) (waiting_at at (queues_of works)) sent limit (length packets) found.ready.counted found.fits gone.sent_are
 
@@ -472,7 +472,7 @@ found_text plan works read rounds limit sent at left before packets text found b
     ∙ ap (λ n. records_text (base_at at works) (run_at at before n (queues_of works))) left_is
     ∙ ap (λ n. records_text n (run_at at before (limit - sent) (queues_of works))) (base_is plan.base at works found.within bases)
     ∙ ap (records_text plan.base) (found_ahead frames works rounds limit sent at before packets found
-        ∙ ap (λ n. take (length packets) (drop n (sequence limit frames))) (sym long))
+    ∙ ap (λ n. take (length packets) (drop n (sequence limit frames))) (sym long))
 
 -- how many bytes its text has
 pub found_bytes : (frames : List Frame) (works read : List Work) (rounds limit sent at left : ℕ) (before : Option Key) (packets : List Waiting) (text : List ℕ)
@@ -505,7 +505,7 @@ found_small frames works read rounds limit sent at before packets found read_is 
     let waiting = waiting_at at (queues_of works) in
     let n = run_length before (limit - sent) waiting in
     let all : AllByRecursion (λ packet. packet.length ≤ 9216) packets =
-        subst (λ (l : List Waiting). AllByRecursion (λ packet. packet.length ≤ 9216) l) (sym found.packets_are) (all_small (take n waiting) (all_take IsShort n waiting here)) in
+    subst (λ (l : List Waiting). AllByRecursion (λ packet. packet.length ≤ 9216) l) (sym found.packets_are) (all_small (take n waiting) (all_take IsShort n waiting here)) in
     all_take (λ (packet : Waiting). packet.length ≤ 9216) (length packets - 1) (drop 1 packets) (all_rest (λ (packet : Waiting). packet.length ≤ 9216) packets all)
 
 -- where its first packet is counted, the others are counted
@@ -518,7 +518,7 @@ found_counted p frames works rounds limit sent sent' at before packets next old 
     let seq = sequence limit frames in
     let first : old ≡ tallies p (take (sent + 1) seq) = was ∙ ap (λ (n : Next). tallies p (take (sent + packet_ahead n) seq)) is in
     let are : packets ≡ map waiting_of (take (length packets) (drop sent seq)) =
-        found.packets_are ∙ ap (map waiting_of) (found_ahead frames works rounds limit sent at before packets found) in
+    found.packets_are ∙ ap (map waiting_of) (found_ahead frames works rounds limit sent at before packets found) in
     counts ∙ ap (λ (ts : List Tally). all_counted ts (take (length packets - 1) (drop 1 packets))) same
     ∙ ap (all_counted old) (rest_whole packets ∙ ap (drop 1) are)
     ∙ run_counted p seq sent (length packets) old found.some first
@@ -551,8 +551,8 @@ found_passed frames works between works' rounds same_rounds rounds' limit same_l
     same_limit_is is works_are rounds_are is' =
     let many = found.many in
     let gone = past frames works between works' rounds limit sent sent' at (length packets) before after next found.ready found.elsewhere.least found.some
-        (omega (arith, many)) queues marks count (is ∙ ap (λ n. next_of (n - sent') (queues_of between)) same_limit_is) works_are
-        (is' ∙ ap (λ n. next_of (n - sent') (queues_of works')) same_limit_is) in
+    (omega (arith, many)) queues marks count (is ∙ ap (λ n. next_of (n - sent') (queues_of between)) same_limit_is) works_are
+    (is' ∙ ap (λ n. next_of (n - sent') (queues_of works')) same_limit_is) in
     let rounds_here : rounds' ≡ rounds_after after rounds = rounds_are ∙ ap (rounds_after after) same_rounds_is in
     record {
       past = gone;

@@ -1,4 +1,4 @@
-use Rattle.std.proofs.Common.{◌≡◌, ℕ, ◌+◌, ◌-◌, ◌^◌, ◌++◌, ◌<◌, ◌≤◌, Bool, List, length, map, take, drop, ap, sym, subst, ◌∙◌, arith}
+use Rattle.std.proofs.Common.{◌≡◌, ℕ, ◌+◌, ◌-◌, ◌^◌, ◌++◌, Bool, List, length, take, drop, ap, sym, subst, ◌∙◌, arith}
 use Rattle.std.proofs.Math.Seq.{take-append_seam}
 use Rattle.std.proofs.lemmas.List.{length-take}
 use Rattle.trex_core.specs.Plan.{frames_of_plan}
@@ -14,7 +14,7 @@ use Rattle.trex_run.specs.Pieces.{WrittenAndPending}
 use Rattle.trex_run.specs.Ready.{CountsNext, queues_of}
 use Rattle.trex_run.specs.Rounds.{EnteredAfter}
 use Rattle.trex_run.specs.State.{IsPass, RunState, ahead}
-use Rattle.trex_run.specs.Step.{is_packet, mill_after, packet_ahead, rounds_after}
+use Rattle.trex_run.specs.Step.{mill_after, packet_ahead, rounds_after}
 use Rattle.trex_run.proofs.BaseLemmas.{bases_after}
 use Rattle.trex_run.proofs.HeadLemmas.{all_waiting_short, counted_next, waits_within}
 use Rattle.trex_run.proofs.PassLemmas.{found_bytes, found_counted, found_passed, found_sent, found_small, found_text, is_found, pass_is}
@@ -40,9 +40,9 @@ returns-in-Err-clause-part g c =
     let before = c.least_elsewhere-before.result in
     let packets = c.run_of-run.result.packets.now in
     let found = is_found frames works c.works.result.now c.works-2.result.now i.crew.rounds i.mill.limit i.mill.sent feed c.left.result before packets i.next
-        c.self.invariant.0 c.in-Packet.is c.works.ensures c.least_elsewhere-before.ensures c.works-2.ensures c.left.ensures c.run_of-run.ensures.packets in
+    c.self.invariant.0 c.in-Packet.is c.works.ensures c.least_elsewhere-before.ensures c.works-2.ensures c.left.ensures c.run_of-run.ensures.packets in
     let text = found_text i.plan.now works c.works-2.result.now i.crew.rounds i.mill.limit i.mill.sent feed c.left.result before packets c.run_of-run.result.text.now found
-        c.self.invariant.3 c.works-2.ensures c.left.ensures c.run_of-run.ensures.text in
+    c.self.invariant.3 c.works-2.ensures c.left.ensures c.run_of-run.ensures.text in
     let old = state_of i.plan.now works i.crew.rounds i.mill.sent i.mill.limit in
     let Part : RunState → Type 0 = λ run. WrotePart g.O.Sink.held c.args.out.now c.gather.new.out (c.args.piece.now.items ++ records_text run.plan.base (ahead (length packets) run)) in
     let part : Part old = subst (λ (t : List ℕ). WrotePart g.O.Sink.held c.args.out.now c.gather.new.out (c.args.piece.now.items ++ t)) text c.in-Err.ensures.part in
@@ -58,7 +58,7 @@ slice_bounds-count_all-start g c =
     let before = c.least_elsewhere-before.result in
     let packets = c.run_of-run.result.packets.now in
     let found = is_found frames works c.works.result.now c.works-2.result.now i.crew.rounds i.mill.limit i.mill.sent feed c.left.result before packets i.next
-        c.self.invariant.0 c.in-Packet.is c.works.ensures c.least_elsewhere-before.ensures c.works-2.ensures c.left.ensures c.run_of-run.ensures.packets in
+    c.self.invariant.0 c.in-Packet.is c.works.ensures c.least_elsewhere-before.ensures c.works-2.ensures c.left.ensures c.run_of-run.ensures.packets in
     let some = found.some in
     omega (arith, some)
 
@@ -71,7 +71,7 @@ slice_bounds-count_all-count g c =
     let before = c.least_elsewhere-before.result in
     let packets = c.run_of-run.result.packets.now in
     let found = is_found frames works c.works.result.now c.works-2.result.now i.crew.rounds i.mill.limit i.mill.sent feed c.left.result before packets i.next
-        c.self.invariant.0 c.in-Packet.is c.works.ensures c.least_elsewhere-before.ensures c.works-2.ensures c.left.ensures c.run_of-run.ensures.packets in
+    c.self.invariant.0 c.in-Packet.is c.works.ensures c.least_elsewhere-before.ensures c.works-2.ensures c.left.ensures c.run_of-run.ensures.packets in
     let some = found.some in
     omega (arith, some)
 
@@ -92,7 +92,7 @@ count_all-requires-clause-few g c =
     let before = c.least_elsewhere-before.result in
     let packets = c.run_of-run.result.packets.now in
     let found = is_found frames works c.works.result.now c.works-2.result.now i.crew.rounds i.mill.limit i.mill.sent feed c.left.result before packets i.next
-        c.self.invariant.0 c.in-Packet.is c.works.ensures c.least_elsewhere-before.ensures c.works-2.ensures c.left.ensures c.run_of-run.ensures.packets in
+    c.self.invariant.0 c.in-Packet.is c.works.ensures c.least_elsewhere-before.ensures c.works-2.ensures c.left.ensures c.run_of-run.ensures.packets in
     let fits = found.fits in
     let limited = found.ready.limited in
     omega (arith, length-take (length packets - 1) (drop 1 packets), fits, limited)
@@ -106,7 +106,7 @@ count_all-requires-clause-small g c =
     let before = c.least_elsewhere-before.result in
     let packets = c.run_of-run.result.packets.now in
     let found = is_found frames works c.works.result.now c.works-2.result.now i.crew.rounds i.mill.limit i.mill.sent feed c.left.result before packets i.next
-        c.self.invariant.0 c.in-Packet.is c.works.ensures c.least_elsewhere-before.ensures c.works-2.ensures c.left.ensures c.run_of-run.ensures.packets in
+    c.self.invariant.0 c.in-Packet.is c.works.ensures c.least_elsewhere-before.ensures c.works-2.ensures c.left.ensures c.run_of-run.ensures.packets in
     found_small frames works c.works-2.result.now i.crew.rounds i.mill.limit i.mill.sent feed before packets found c.works-2.ensures c.run_of-run.ensures.short
 
 pub send_run-then-requires-clause-within : goal.send_run-then-requires-clause-within
@@ -118,7 +118,7 @@ send_run-then-requires-clause-within g c =
     let before = c.least_elsewhere-before.result in
     let packets = c.run_of-run.result.packets.now in
     let found = is_found frames works c.works.result.now c.works-2.result.now i.crew.rounds i.mill.limit i.mill.sent feed c.left.result before packets i.next
-        c.self.invariant.0 c.in-Packet.is c.works.ensures c.least_elsewhere-before.ensures c.works-2.ensures c.left.ensures c.run_of-run.ensures.packets in
+    c.self.invariant.0 c.in-Packet.is c.works.ensures c.least_elsewhere-before.ensures c.works-2.ensures c.left.ensures c.run_of-run.ensures.packets in
     found.within
 
 pub send_run-then-requires-clause-bytes : goal.send_run-then-requires-clause-bytes
@@ -130,7 +130,7 @@ send_run-then-requires-clause-bytes g c =
     let before = c.least_elsewhere-before.result in
     let packets = c.run_of-run.result.packets.now in
     let found = is_found frames works c.works.result.now c.works-2.result.now i.crew.rounds i.mill.limit i.mill.sent feed c.left.result before packets i.next
-        c.self.invariant.0 c.in-Packet.is c.works.ensures c.least_elsewhere-before.ensures c.works-2.ensures c.left.ensures c.run_of-run.ensures.packets in
+    c.self.invariant.0 c.in-Packet.is c.works.ensures c.least_elsewhere-before.ensures c.works-2.ensures c.left.ensures c.run_of-run.ensures.packets in
     found_bytes frames works c.works-2.result.now i.crew.rounds i.mill.limit i.mill.sent feed c.left.result before packets c.run_of-run.result.text.now found
     c.works-2.ensures c.left.ensures c.run_of-run.ensures.text
 
@@ -143,7 +143,7 @@ send_run-then-requires-clause-limit g c =
     let before = c.least_elsewhere-before.result in
     let packets = c.run_of-run.result.packets.now in
     let found = is_found frames works c.works.result.now c.works-2.result.now i.crew.rounds i.mill.limit i.mill.sent feed c.left.result before packets i.next
-        c.self.invariant.0 c.in-Packet.is c.works.ensures c.least_elsewhere-before.ensures c.works-2.ensures c.left.ensures c.run_of-run.ensures.packets in
+    c.self.invariant.0 c.in-Packet.is c.works.ensures c.least_elsewhere-before.ensures c.works-2.ensures c.left.ensures c.run_of-run.ensures.packets in
     found.fits
 
 pub supply-self-inside-requires-clause-turns : goal.supply-self-inside-requires-clause-turns
@@ -155,12 +155,12 @@ supply-self-inside-requires-clause-turns g c =
     let before = c.least_elsewhere-before.result in
     let packets = c.run_of-run.result.packets.now in
     let found = is_found frames works c.works.result.now c.works-2.result.now i.crew.rounds i.mill.limit i.mill.sent feed c.left.result before packets i.next
-        c.self.invariant.0 c.in-Packet.is c.works.ensures c.least_elsewhere-before.ensures c.works-2.ensures c.left.ensures c.run_of-run.ensures.packets in
+    c.self.invariant.0 c.in-Packet.is c.works.ensures c.least_elsewhere-before.ensures c.works-2.ensures c.left.ensures c.run_of-run.ensures.packets in
     let send = c.send_run-then.ensures in
     let sent' = c.send_run-then.new.mill.sent in
     let between = works_of c.send_run-then.new.crew in
     let sends = found_sent frames works between i.crew.rounds i.mill.limit c.send_run-then.new.mill.limit i.mill.sent sent' feed before packets c.send_run-then.result found
-        send.queues send.marks send.sent send.limit send.next in
+    send.queues send.marks send.sent send.limit send.next in
     let within = sent_within frames between i.crew.rounds i.mill.limit sent' c.send_run-then.result sends.ready in
     let few = sends.ready.limited in
     λ lifetimes order. turns_below sent' (2 ^ 63) between (omega (arith, within, few)) sends.turns
@@ -174,7 +174,7 @@ count_next-requires-clause-least g c at is =
     let before = c.least_elsewhere-before.result in
     let packets = c.run_of-run.result.packets.now in
     let found = is_found frames works c.works.result.now c.works-2.result.now i.crew.rounds i.mill.limit i.mill.sent feed c.left.result before packets i.next
-        c.self.invariant.0 c.in-Packet.is c.works.ensures c.least_elsewhere-before.ensures c.works-2.ensures c.left.ensures c.run_of-run.ensures.packets in
+    c.self.invariant.0 c.in-Packet.is c.works.ensures c.least_elsewhere-before.ensures c.works-2.ensures c.left.ensures c.run_of-run.ensures.packets in
     let send = c.send_run-then.ensures in
     let supply = c.supply-self-inside.ensures in
     let between = works_of c.send_run-then.new.crew in
@@ -184,7 +184,7 @@ count_next-requires-clause-least g c at is =
     let next' = c.supply-self-inside.result in
     let rounds' = c.supply-self-inside.new.crew.rounds in
     let gone = found_passed frames works between works' i.crew.rounds c.send_run-then.new.crew.rounds rounds' i.mill.limit c.send_run-then.new.mill.limit i.mill.sent sent'
-        feed before packets after next' found send.queues send.marks send.rounds send.sent send.limit send.next supply.works supply.rounds supply.next in
+    feed before packets after next' found send.queues send.marks send.rounds send.sent send.limit send.next supply.works supply.rounds supply.next in
     rw c.works-3.ensures (packet_is_least (i.mill.limit - sent') at (queues_of works') (sym gone.ready.next_is ∙ is))
 
 pub count_next-requires-clause-room : goal.count_next-requires-clause-room
@@ -196,12 +196,12 @@ count_next-requires-clause-room g c =
     let before = c.least_elsewhere-before.result in
     let packets = c.run_of-run.result.packets.now in
     let found = is_found frames works c.works.result.now c.works-2.result.now i.crew.rounds i.mill.limit i.mill.sent feed c.left.result before packets i.next
-        c.self.invariant.0 c.in-Packet.is c.works.ensures c.least_elsewhere-before.ensures c.works-2.ensures c.left.ensures c.run_of-run.ensures.packets in
+    c.self.invariant.0 c.in-Packet.is c.works.ensures c.least_elsewhere-before.ensures c.works-2.ensures c.left.ensures c.run_of-run.ensures.packets in
     let send = c.send_run-then.ensures in
     let sent' = c.send_run-then.new.mill.sent in
     let all = sequence i.mill.limit frames in
     let counted = found_counted i.plan.now.profile frames works i.crew.rounds i.mill.limit i.mill.sent sent' feed before packets i.next i.tallies.items c.deref_mut.result.now
-        c.count_all.new.tallies found c.in-Packet.is c.self.invariant.1 c.deref_mut.ensures.value c.count_all.ensures send.sent in
+    c.count_all.new.tallies found c.in-Packet.is c.self.invariant.1 c.deref_mut.ensures.value c.count_all.ensures send.sent in
     let first = c.count_all.new.tallies in
     let long : i.tallies.len ≡ length first = omega (arith, c.deref_mut.ensures.len) in
     let rest = drop (length first) i.tallies.items in
@@ -218,7 +218,7 @@ count_next-requires-clause-short g c at =
     let before = c.least_elsewhere-before.result in
     let packets = c.run_of-run.result.packets.now in
     let found = is_found frames works c.works.result.now c.works-2.result.now i.crew.rounds i.mill.limit i.mill.sent feed c.left.result before packets i.next
-        c.self.invariant.0 c.in-Packet.is c.works.ensures c.least_elsewhere-before.ensures c.works-2.ensures c.left.ensures c.run_of-run.ensures.packets in
+    c.self.invariant.0 c.in-Packet.is c.works.ensures c.least_elsewhere-before.ensures c.works-2.ensures c.left.ensures c.run_of-run.ensures.packets in
     let send = c.send_run-then.ensures in
     let supply = c.supply-self-inside.ensures in
     let between = works_of c.send_run-then.new.crew in
@@ -228,7 +228,7 @@ count_next-requires-clause-short g c at =
     let next' = c.supply-self-inside.result in
     let rounds' = c.supply-self-inside.new.crew.rounds in
     let gone = found_passed frames works between works' i.crew.rounds c.send_run-then.new.crew.rounds rounds' i.mill.limit c.send_run-then.new.mill.limit i.mill.sent sent'
-        feed before packets after next' found send.queues send.marks send.rounds send.sent send.limit send.next supply.works supply.rounds supply.next in
+    feed before packets after next' found send.queues send.marks send.rounds send.sent send.limit send.next supply.works supply.rounds supply.next in
     rw c.works-3.ensures
     (all_waiting_short (queues_of works') at (stems_short frames (mill_after frames (queues_of works') sent' i.mill.limit) gone.ready.is gone.ready.short))
 
@@ -241,7 +241,7 @@ invariant_of-self g c =
     let before = c.least_elsewhere-before.result in
     let packets = c.run_of-run.result.packets.now in
     let found = is_found frames works c.works.result.now c.works-2.result.now i.crew.rounds i.mill.limit i.mill.sent feed c.left.result before packets i.next
-        c.self.invariant.0 c.in-Packet.is c.works.ensures c.least_elsewhere-before.ensures c.works-2.ensures c.left.ensures c.run_of-run.ensures.packets in
+    c.self.invariant.0 c.in-Packet.is c.works.ensures c.least_elsewhere-before.ensures c.works-2.ensures c.left.ensures c.run_of-run.ensures.packets in
     let send = c.send_run-then.ensures in
     let supply = c.supply-self-inside.ensures in
     let between = works_of c.send_run-then.new.crew in
@@ -251,10 +251,10 @@ invariant_of-self g c =
     let next' = c.supply-self-inside.result in
     let rounds' = c.supply-self-inside.new.crew.rounds in
     let gone = found_passed frames works between works' i.crew.rounds c.send_run-then.new.crew.rounds rounds' i.mill.limit c.send_run-then.new.mill.limit i.mill.sent sent'
-        feed before packets after next' found send.queues send.marks send.rounds send.sent send.limit send.next supply.works supply.rounds supply.next in
+    feed before packets after next' found send.queues send.marks send.rounds send.sent send.limit send.next supply.works supply.rounds supply.next in
     let all = sequence i.mill.limit frames in
     let counted = found_counted i.plan.now.profile frames works i.crew.rounds i.mill.limit i.mill.sent sent' feed before packets i.next i.tallies.items c.deref_mut.result.now
-        c.count_all.new.tallies found c.in-Packet.is c.self.invariant.1 c.deref_mut.ensures.value c.count_all.ensures send.sent in
+    c.count_all.new.tallies found c.in-Packet.is c.self.invariant.1 c.deref_mut.ensures.value c.count_all.ensures send.sent in
     let first = c.count_all.new.tallies in
     let long : i.tallies.len ≡ length first = omega (arith, c.deref_mut.ensures.len) in
     let rest = drop (length first) i.tallies.items in
@@ -262,7 +262,7 @@ invariant_of-self g c =
     let new = c.count_next.new.tallies in
     let counts : CountsNext next' (queues_of works') first new = rw (c.works-3.ensures, c.deref_mut-2.ensures.value, back) at c.count_next.ensures in
     let is : new ≡ tallies i.plan.now.profile (take (sent' + packet_ahead next') all) =
-        counted_next i.plan.now.profile frames works' rounds' i.mill.limit sent' next' first new gone.ready counted counts in
+    counted_next i.plan.now.profile frames works' rounds' i.mill.limit sent' next' first new gone.ready counted counts in
     let long' : i.tallies.len ≡ length new = omega (arith, c.deref_mut-2.ensures.len) in
     let rest' = drop (length new) (take i.tallies.len (first ++ rest)) in
     let back' : take i.tallies.len (new ++ rest') ≡ new = ap (λ n. take n (new ++ rest')) long' ∙ take-append_seam new rest' in
@@ -277,7 +277,7 @@ returns-clause-passes g c =
     let before = c.least_elsewhere-before.result in
     let packets = c.run_of-run.result.packets.now in
     let found = is_found frames works c.works.result.now c.works-2.result.now i.crew.rounds i.mill.limit i.mill.sent feed c.left.result before packets i.next
-        c.self.invariant.0 c.in-Packet.is c.works.ensures c.least_elsewhere-before.ensures c.works-2.ensures c.left.ensures c.run_of-run.ensures.packets in
+    c.self.invariant.0 c.in-Packet.is c.works.ensures c.least_elsewhere-before.ensures c.works-2.ensures c.left.ensures c.run_of-run.ensures.packets in
     let send = c.send_run-then.ensures in
     let supply = c.supply-self-inside.ensures in
     let between = works_of c.send_run-then.new.crew in
@@ -287,22 +287,22 @@ returns-clause-passes g c =
     let next' = c.supply-self-inside.result in
     let rounds' = c.supply-self-inside.new.crew.rounds in
     let gone = found_passed frames works between works' i.crew.rounds c.send_run-then.new.crew.rounds rounds' i.mill.limit c.send_run-then.new.mill.limit i.mill.sent sent'
-        feed before packets after next' found send.queues send.marks send.rounds send.sent send.limit send.next supply.works supply.rounds supply.next in
+    feed before packets after next' found send.queues send.marks send.rounds send.sent send.limit send.next supply.works supply.rounds supply.next in
     let text = found_text i.plan.now works c.works-2.result.now i.crew.rounds i.mill.limit i.mill.sent feed c.left.result before packets c.run_of-run.result.text.now found
-        c.self.invariant.3 c.works-2.ensures c.left.ensures c.run_of-run.ensures.text in
+    c.self.invariant.3 c.works-2.ensures c.left.ensures c.run_of-run.ensures.text in
     let old = state_of i.plan.now works i.crew.rounds i.mill.sent i.mill.limit in
     let entered : EnteredAfter g.G.Gate.entries (λ (w : Work). w.core) after between i.crew.rounds c.args.gates.now c.supply-self-inside.new.gates =
-        subst (λ n. EnteredAfter g.G.Gate.entries (λ (w : Work). w.core) after between n c.args.gates.now c.supply-self-inside.new.gates) send.rounds supply.gates in
+    subst (λ n. EnteredAfter g.G.Gate.entries (λ (w : Work). w.core) after between n c.args.gates.now c.supply-self-inside.new.gates) send.rounds supply.gates in
     let pass = pass_is g.G.Gate.entries i.plan.now works between works' i.crew.rounds i.mill.limit i.mill.sent sent' feed (length packets) after next'
-        c.args.gates.now c.supply-self-inside.new.gates found.ready found.some gone.past send.sent entered in
+    c.args.gates.now c.supply-self-inside.new.gates found.ready found.some gone.past send.sent entered in
     let Pass : RunState → ℕ → ℕ → Bool → Type 0 = λ old rounds limit more.
-        IsPass g.G.Gate.entries old (state_of i.plan.now works' rounds sent' limit) c.args.gates.now c.supply-self-inside.new.gates (length packets) more in
+    IsPass g.G.Gate.entries old (state_of i.plan.now works' rounds sent' limit) c.args.gates.now c.supply-self-inside.new.gates (length packets) more in
     let Text : RunState → Type 0 = λ run. WrittenAndPending g.O.Sink.held c.args.out.now c.gather.new.out c.gather.new.piece.items
-        (c.args.piece.now.items ++ records_text run.plan.base (ahead (length packets) run)) in
+    (c.args.piece.now.items ++ records_text run.plan.base (ahead (length packets) run)) in
     let gathers : Text old = subst (λ (t : List ℕ). WrittenAndPending g.O.Sink.held c.args.out.now c.gather.new.out c.gather.new.piece.items (c.args.piece.now.items ++ t)) text
-        c.in_default.ensures.gathers in
+    c.in_default.ensures.gathers in
     let more : Pass old (rounds_after after i.crew.rounds) i.mill.limit c.is_packet.result =
-        subst (Pass old (rounds_after after i.crew.rounds) i.mill.limit) (sym c.is_packet.ensures) pass in
+    subst (Pass old (rounds_after after i.crew.rounds) i.mill.limit) (sym c.is_packet.ensures) pass in
     let made : Pass old rounds' i.mill.limit c.is_packet.result = subst (λ n. Pass old n i.mill.limit c.is_packet.result) (sym gone.rounds_are) more in
     record {
       many = length packets;
