@@ -1,6 +1,6 @@
 -- The base from which the times of all works' records count.
 use Rattle.std.proofs.Common.{◌≡◌, ℕ, zero, suc, ◌+◌, ◌<◌, List, [], ◌∷◌, length, map, refl, ◌∙◌, arith}
-use Rattle.std.specs.List.{AllByRecursion, range_with_len}
+use Rattle.std.specs.List.{range_with_len}
 use Rattle.trex_core.specs.Works.{Work, turned}
 use Rattle.trex_merge.specs.declared.next.Next.{Next}
 use Rattle.trex_merge.specs.declared.next.Next.TheVariants.{Packet, Need, End}

@@ -1,5 +1,5 @@
 -- A run of packets: what is sent of it, and what stays true of the run of the profile.
-use Rattle.std.proofs.Common.{◌≡◌, ℕ, zero, suc, ◌+◌, ◌-◌, ◌≤◌, ◌<◌, true, false, Bool, cond, None, Option, ◌⊎◌, inl, inr, List, [], ◌∷◌, ◌++◌, append_assoc, append-nil, length, map, take, drop, replicate, refl, sym, ap, ◌∙◌, subst, arith, Some, length-append, length-take, get_or, set}
+use Rattle.std.proofs.Common.{◌≡◌, ℕ, zero, suc, ◌+◌, ◌-◌, ◌≤◌, ◌<◌, true, false, cond, None, Option, ◌⊎◌, inl, inr, List, [], ◌∷◌, ◌++◌, append_assoc, append-nil, length, map, take, drop, replicate, refl, sym, ap, ◌∙◌, subst, arith, Some, length-append, length-take, get_or}
 use Rattle.std.proofs.lemmas.Bool.{cases_lt, false≢true}
 use Rattle.std.proofs.lemmas.List.{drop_at, drop-map, drop-take, length-map, length-take-le}
 use Rattle.std.proofs.Math.Seq.{take-add, take-append_seam}
@@ -24,13 +24,16 @@ use Rattle.trex_merge.proofs.ShareLemmas.{emit_shares}
 use Rattle.trex_profile.specs.Stream.{Stream}
 use Rattle.trex_report.specs.declared.report.Tally.{Tally}
 use Rattle.trex_run.specs.Capture.{tallies}
-use Rattle.trex_run.specs.Ready.{IsReady, base_at, marks_of, queues_of, run_at}
+use Rattle.trex_core.specs.Texts.{records_text}
+use Rattle.trex_merge.proofs.QueueLemmas.{packet_is_least}
+use Rattle.trex_run.specs.Ready.{HaveBase, IsReady, base_at, marks_of, queues_of, run_at}
 use Rattle.trex_run.specs.Rounds.{EnteredAfter, HasKeptUp, IsEnoughRounds, TellRounds}
-use Rattle.trex_run.specs.State.{IsPass, IsShort, RunState, ahead, all_of}
-use Rattle.trex_run.specs.Step.{earlier_key, is_packet, mill_after, packet_ahead, passed, reached, rounds_after, supplied, works_after}
-use Rattle.trex_run.specs.Tallies.{all_counted, counted}
+use Rattle.trex_run.specs.State.{IsPass, IsShort, ahead}
+use Rattle.trex_run.specs.Step.{earlier_key, is_packet, mill_after, packet_ahead, passed, rounds_after, supplied, works_after}
+use Rattle.trex_run.specs.Tallies.{all_counted}
 use Rattle.trex_run.proofs.HeadLemmas.{waits_within}
-use Rattle.trex_run.proofs.ListLemmas.{take_split}
+use Rattle.trex_run.proofs.BaseLemmas.{base_is}
+use Rattle.trex_run.proofs.ListLemmas.{all_take, take_split}
 use Rattle.trex_run.proofs.MillLemmas.{next_is, none_ahead}
 use Rattle.trex_run.proofs.ReadyLemmas.{IsSent, after_supply, ended, ended_suffices, sent_within, state_of}
 use Rattle.trex_run.proofs.RoundsLemmas.{tell_after}
@@ -99,7 +102,7 @@ run_is frames queues sent limit at many before mill within next others few =
     let kept = subst (IsMill frames) e (run_keeps frames state (replicate many Emit) mill) in
     let fits = run_within before (limit - sent) waiting in
     let more = many_more all (take sent all) (take many waiting) (ordered key_of (joined (map stem (at_place (dropped many) at queues)))) sent many long
-        (length-take-le many waiting (omega arith)) kept.whole in
+    (length-take-le many waiting (omega arith)) kept.whole in
     record {
       state = e ∙ ap (λ (list : List Frame). record { queues = at_place (dropped many) at queues; sent = list; limit = limit }) more.0;
       within = more.1;
@@ -148,7 +151,7 @@ after_run frames works works' rounds limit sent sent' at many before next' ready
     let state : MillState = mill_after frames (queues_of works) sent limit in
     let gone = run_is frames (queues_of works) sent limit at many before ready.is ready.counted (sym ready.next_is) others few in
     let now : IsMill frames (mill_after frames (queues_of works') sent' limit) =
-        rw (queues, count) (subst (IsMill frames) gone.state (run_keeps frames state (replicate many Emit) ready.is)) in
+    rw (queues, count) (subst (IsMill frames) gone.state (run_keeps frames state (replicate many Emit) ready.is)) in
     let counted : sent' ≤ length (ordered key_of frames) = rw count gone.within in
     let rounds_before = ready.rounds_are in
     let cores = cores_by_marks works' works marks in
@@ -197,9 +200,9 @@ past frames works between works' rounds limit sent sent' at many before after ne
     let sends = after_run frames works between rounds limit sent sent' at many before after ready others some few queues marks count is in
     let step = after_supply frames between works' rounds (rounds_after after rounds) limit sent' after next sends works_are refl is' in
     let state : run (replicate many Emit) (mill_after frames (queues_of works) sent limit) ≡ mill_after frames (queues_of between) sent' limit =
-        gone.state ∙ rw (queues, count) refl in
+    gone.state ∙ rw (queues, count) refl in
     let coming_then : next_in (mill_after frames (queues_of between) sent' limit) ≡ after =
-        next_is frames (queues_of between) sent' limit sends.ready.counted ∙ sym is in
+    next_is frames (queues_of between) sent' limit sends.ready.counted ∙ sym is in
     let most = run_most before (limit - sent) (waiting_at at (queues_of works)) in
     let below = sent_within frames works rounds limit sent (Packet at) ready in
     let fits : sent + many ≤ limit = omega (arith, most, below, few) in
@@ -409,3 +412,150 @@ waiting_there (w ∷ works) (suc at) work within is = waiting_there works at wor
 pub made_short : (frames : List Frame) → AllByRecursion IsMade frames → AllByRecursion IsShort frames
 made_short [] made = tt
 made_short (frame ∷ frames) made = (made.0.bytes, made_short frames made.1)
+
+-- ---- what the calls of a pass say
+
+-- The run that is passed: packets of the core whose packet comes next.
+pub record IsFound (frames : List Frame) (works : List Work) (rounds limit sent at : ℕ) (before : Option Key) (packets : List Waiting) : Type 0 where
+  pub ready : IsReady frames works rounds limit sent (Packet at)
+  pub elsewhere : IsLeastElsewhere at before (queues_of works)
+  pub packets_are : packets ≡ map waiting_of (run_at at before (limit - sent) (queues_of works))
+  pub many : length packets ≡ run_length before (limit - sent) (waiting_at at (queues_of works))
+  pub some : 0 < length packets
+  pub fits : sent + length packets ≤ limit
+  pub within : at < length works
+
+pub is_found : (frames : List Frame) (works seen read : List Work) (rounds limit sent at left : ℕ) (before : Option Key) (packets : List Waiting) (next : Next)
+    → IsReady frames works rounds limit sent next → next ≡ Packet at → seen ≡ works → IsLeastElsewhere at before (queues_of seen) → read ≡ works → left ≡ limit - sent
+    → packets ≡ map waiting_of (run_at at before left (queues_of read)) → IsFound frames works rounds limit sent at before packets
+is_found frames works seen read rounds limit sent at left before packets next ready is seen_is elsewhere read_is left_is packets_are =
+    let here : IsReady frames works rounds limit sent (Packet at) = subst (IsReady frames works rounds limit sent) is ready in
+    let there : IsLeastElsewhere at before (queues_of works) = subst (λ (w : List Work). IsLeastElsewhere at before (queues_of w)) seen_is elsewhere in
+    let are : packets ≡ map waiting_of (run_at at before (limit - sent) (queues_of works)) =
+    packets_are ∙ ap (λ (w : List Work). map waiting_of (run_at at before left (queues_of w))) read_is
+    ∙ ap (λ n. map waiting_of (run_at at before n (queues_of works))) left_is in
+    let many = run_many before (limit - sent) at (queues_of works) packets are in
+    let some = some_packets frames works rounds limit sent at before here there in
+    let most = run_most before (limit - sent) (waiting_at at (queues_of works)) in
+    let below = sent_within frames works rounds limit sent (Packet at) here in
+    let chosen = packet_is_least (limit - sent) at (queues_of works) (sym here.next_is) in
+    record {
+      ready = here;
+      elsewhere = there;
+      packets_are = are;
+      many = many;
+      some = omega (arith, many, some);
+      fits = omega (arith, many, most, below);
+      within = waits_within works at _ chosen.there;
+    }
+
+-- its packets are the next of all
+found_ahead : (frames : List Frame) (works : List Work) (rounds limit sent at : ℕ) (before : Option Key) (packets : List Waiting)
+    → IsFound frames works rounds limit sent at before packets
+    → run_at at before (limit - sent) (queues_of works) ≡ take (length packets) (drop sent (sequence limit frames))
+found_ahead frames works rounds limit sent at before packets found =
+    let many = found.many in
+    let gone = run_is frames (queues_of works) sent limit at (length packets) before found.ready.is found.ready.counted (sym found.ready.next_is)
+    found.elsewhere.least (omega (arith, many)) in
+    ap (λ n. take n (waiting_at at (queues_of works))) (sym many)
+    ∙ run_frames (ordered key_of frames) (waiting_at at (queues_of works)) sent limit (length packets) found.ready.counted found.fits gone.sent_are
+
+-- its text
+pub found_text : (plan : PlanOf) (works read : List Work) (rounds limit sent at left : ℕ) (before : Option Key) (packets : List Waiting) (text : List ℕ)
+    → IsFound (frames_of_plan plan) works rounds limit sent at before packets → HaveBase plan.base works → read ≡ works → left ≡ limit - sent
+    → text ≡ records_text (base_at at read) (run_at at before left (queues_of read))
+    → text ≡ records_text plan.base (ahead (length packets) (state_of plan works rounds sent limit))
+found_text plan works read rounds limit sent at left before packets text found bases read_is left_is is =
+    let frames = frames_of_plan plan in
+    let long : length (take sent (ordered key_of frames)) ≡ sent = length-take-le sent (ordered key_of frames) found.ready.counted in
+    is ∙ ap (λ (w : List Work). records_text (base_at at w) (run_at at before left (queues_of w))) read_is
+    ∙ ap (λ n. records_text (base_at at works) (run_at at before n (queues_of works))) left_is
+    ∙ ap (λ n. records_text n (run_at at before (limit - sent) (queues_of works))) (base_is plan.base at works found.within bases)
+    ∙ ap (records_text plan.base) (found_ahead frames works rounds limit sent at before packets found
+    ∙ ap (λ n. take (length packets) (drop n (sequence limit frames))) (sym long))
+
+-- how many bytes its text has
+pub found_bytes : (frames : List Frame) (works read : List Work) (rounds limit sent at left : ℕ) (before : Option Key) (packets : List Waiting) (text : List ℕ)
+    → IsFound frames works rounds limit sent at before packets → read ≡ works → left ≡ limit - sent
+    → text ≡ records_text (base_at at read) (run_at at before left (queues_of read))
+    → length text ≡ length (records_text (base_at at works) (take (length packets) (waiting_at at (queues_of works))))
+found_bytes frames works read rounds limit sent at left before packets text found read_is left_is is =
+    ap length (is ∙ ap (λ (w : List Work). records_text (base_at at w) (run_at at before left (queues_of w))) read_is
+    ∙ ap (λ n. records_text (base_at at works) (run_at at before n (queues_of works))) left_is
+    ∙ ap (λ n. records_text (base_at at works) (take n (waiting_at at (queues_of works)))) (sym found.many))
+
+take_all : {X : Type 0} (xs : List X) → take (length xs) xs ≡ xs
+take_all [] = refl
+take_all (x ∷ xs) = ap (λ l. x ∷ l) (take_all xs)
+
+rest_whole : {X : Type 0} (xs : List X) → take (length xs - 1) (drop 1 xs) ≡ drop 1 xs
+rest_whole [] = refl
+rest_whole (x ∷ xs) = let one : suc (length xs) - 1 ≡ length xs = omega arith in ap (λ n. take n xs) one ∙ take_all xs
+
+all_rest : {X : Type 0} (P : X → Type 0) (xs : List X) → AllByRecursion P xs → AllByRecursion P (drop 1 xs)
+all_rest P [] all = tt
+all_rest P (x ∷ xs) all = all.1
+
+-- what is counted of it is short
+pub found_small : (frames : List Frame) (works read : List Work) (rounds limit sent at : ℕ) (before : Option Key) (packets : List Waiting)
+    → IsFound frames works rounds limit sent at before packets → read ≡ works → AllByRecursion IsShort (waiting_at at (queues_of read))
+    → AllByRecursion (λ packet. packet.length ≤ 9216) (take (length packets - 1) (drop 1 packets))
+found_small frames works read rounds limit sent at before packets found read_is short =
+    let here : AllByRecursion IsShort (waiting_at at (queues_of works)) = subst (λ (w : List Work). AllByRecursion IsShort (waiting_at at (queues_of w))) read_is short in
+    let waiting = waiting_at at (queues_of works) in
+    let n = run_length before (limit - sent) waiting in
+    let all : AllByRecursion (λ packet. packet.length ≤ 9216) packets =
+    subst (λ (l : List Waiting). AllByRecursion (λ packet. packet.length ≤ 9216) l) (sym found.packets_are) (all_small (take n waiting) (all_take IsShort n waiting here)) in
+    all_take (λ (packet : Waiting). packet.length ≤ 9216) (length packets - 1) (drop 1 packets) (all_rest (λ (packet : Waiting). packet.length ≤ 9216) packets all)
+
+-- where its first packet is counted, the others are counted
+pub found_counted : (p : List Stream) (frames : List Frame) (works : List Work) (rounds limit sent sent' at : ℕ) (before : Option Key) (packets : List Waiting)
+    (next : Next) (old now new : List Tally) → IsFound frames works rounds limit sent at before packets → next ≡ Packet at
+    → old ≡ tallies p (take (sent + packet_ahead next) (sequence limit frames)) → now ≡ old
+    → new ≡ all_counted now (take (length packets - 1) (drop 1 packets)) → sent' ≡ sent + length packets
+    → new ≡ tallies p (take sent' (sequence limit frames))
+found_counted p frames works rounds limit sent sent' at before packets next old now new found is was same counts count =
+    let seq = sequence limit frames in
+    let first : old ≡ tallies p (take (sent + 1) seq) = was ∙ ap (λ (n : Next). tallies p (take (sent + packet_ahead n) seq)) is in
+    let are : packets ≡ map waiting_of (take (length packets) (drop sent seq)) =
+    found.packets_are ∙ ap (map waiting_of) (found_ahead frames works rounds limit sent at before packets found) in
+    counts ∙ ap (λ (ts : List Tally). all_counted ts (take (length packets - 1) (drop 1 packets))) same
+    ∙ ap (all_counted old) (rest_whole packets ∙ ap (drop 1) are)
+    ∙ run_counted p seq sent (length packets) old found.some first
+    ∙ ap (λ n. tallies p (take n seq)) (sym count)
+
+-- where it is sent
+pub found_sent : (frames : List Frame) (works between : List Work) (rounds limit same_limit sent sent' at : ℕ) (before : Option Key) (packets : List Waiting) (after : Next)
+    → IsFound frames works rounds limit sent at before packets
+    → queues_of between ≡ at_place (dropped (length packets)) at (queues_of works) → marks_of between ≡ marks_of works
+    → sent' ≡ sent + length packets → same_limit ≡ limit → after ≡ next_of (same_limit - sent') (queues_of between)
+    → IsSent frames between rounds limit sent' after
+found_sent frames works between rounds limit same_limit sent sent' at before packets after found queues marks count same_limit_is is =
+    let many = found.many in
+    after_run frames works between rounds limit sent sent' at (length packets) before after found.ready found.elsewhere.least found.some (omega (arith, many))
+    queues marks count (is ∙ ap (λ n. next_of (n - sent') (queues_of between)) same_limit_is)
+
+-- and a round is made if a core has to be waited for
+pub record HasPassed (frames : List Frame) (works between works' : List Work) (rounds rounds' limit sent sent' at many : ℕ) (after next : Next) : Type 0 where
+  pub past : IsPast frames works between works' rounds limit sent sent' at many after next
+  pub rounds_are : rounds' ≡ rounds_after after rounds
+  pub ready : IsReady frames works' rounds' limit sent' next
+
+pub found_passed : (frames : List Frame) (works between works' : List Work) (rounds same_rounds rounds' limit same_limit sent sent' at : ℕ) (before : Option Key)
+    (packets : List Waiting) (after next : Next) → IsFound frames works rounds limit sent at before packets
+    → queues_of between ≡ at_place (dropped (length packets)) at (queues_of works) → marks_of between ≡ marks_of works → same_rounds ≡ rounds
+    → sent' ≡ sent + length packets → same_limit ≡ limit → after ≡ next_of (same_limit - sent') (queues_of between)
+    → works' ≡ works_after turned after between → rounds' ≡ rounds_after after same_rounds → next ≡ next_of (same_limit - sent') (queues_of works')
+    → HasPassed frames works between works' rounds rounds' limit sent sent' at (length packets) after next
+found_passed frames works between works' rounds same_rounds rounds' limit same_limit sent sent' at before packets after next found queues marks same_rounds_is count
+    same_limit_is is works_are rounds_are is' =
+    let many = found.many in
+    let gone = past frames works between works' rounds limit sent sent' at (length packets) before after next found.ready found.elsewhere.least found.some
+    (omega (arith, many)) queues marks count (is ∙ ap (λ n. next_of (n - sent') (queues_of between)) same_limit_is) works_are
+    (is' ∙ ap (λ n. next_of (n - sent') (queues_of works')) same_limit_is) in
+    let rounds_here : rounds' ≡ rounds_after after rounds = rounds_are ∙ ap (rounds_after after) same_rounds_is in
+    record {
+      past = gone;
+      rounds_are = rounds_here;
+      ready = subst (λ n. IsReady frames works' n limit sent' next) (sym rounds_here) gone.ready;
+    }

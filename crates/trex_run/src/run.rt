@@ -18,13 +18,7 @@ fn earlier(one: Option<Key>, other: Option<Key>) -> Option<Key>
     ensures { result ≡ earlier_key one other }
 {
     match (one, other) {
-        (Some(key), Some(new)) => {
-            if is_before(&new, &key) {
-                other
-            } else {
-                one
-            }
-        }
+        (Some(key), Some(new)) => { if is_before(&new, &key) { other } else { one } }
         (Some(_), None) => one,
         (None, _) => other,
     }

@@ -1,4 +1,4 @@
-use Rattle.std.proofs.Common.{◌≡◌, ℕ, ◌+◌, ◌≤◌, ◌<◌, List, [], ◌++◌, length, take, drop, sym, ap, ◌∙◌, subst, arith, append-nil, take-append-drop, rules}
+use Rattle.std.proofs.Common.{◌≡◌, ℕ, ◌+◌, ◌≤◌, List, [], ◌++◌, length, take, drop, sym, ap, ◌∙◌, subst, arith, take-append-drop, rules}
 use Rattle.std.proofs.Math.Seq.{take-add}
 use Rattle.std.proofs.lemmas.List.{nil_from_length}
 use Rattle.trex_core.specs.Plan.{PlanOf}
@@ -55,10 +55,10 @@ runs-preserved g c =
     let k = length here.state.sent in
     let same = same_all entries old here c.args.gates.now c.runs.gates inv.steps in
     let more = WrittenAndPending-more held c.args.out.now c.runs.out c.pass.new.out c.runs.piece.items (capture_text base here.state.sent)
-        (records_text here.plan.base (ahead many here)) c.pass.new.piece.items inv.gathered passes.gathers in
+    (records_text here.plan.base (ahead many here)) c.pass.new.piece.items inv.gathered passes.gathers in
     let goes : capture_text base here.state.sent ++ records_text here.plan.base (ahead many here) ≡ capture_text base new.state.sent =
-        ap (λ (p : PlanOf). capture_text base here.state.sent ++ records_text p.base (ahead many here)) inv.steps.plan
-        ∙ sym (capture_text-append base here.state.sent (ahead many here)) ∙ ap (capture_text base) (sym pass.sent) in
+    ap (λ (p : PlanOf). capture_text base here.state.sent ++ records_text p.base (ahead many here)) inv.steps.plan
+    ∙ sym (capture_text-append base here.state.sent (ahead many here)) ∙ ap (capture_text base) (sym pass.sent) in
     record {
       steps = more_steps entries old here new c.args.gates.now c.runs.gates c.pass.new.gates inv.as_many inv.steps pass.steps;
       gathered = subst (λ (t : List ℕ). WrittenAndPending held c.args.out.now c.pass.new.out c.pass.new.piece.items t) goes more;
@@ -97,14 +97,14 @@ returns-in-Err-clause-part g c =
     let same = same_all g.G.Gate.entries old here c.args.gates.now c.runs.gates inv.steps in
     let rest = records_text base (drop (k + many) all) in
     let behind = WrittenAndPending-behind held c.args.out.now c.runs.out c.pass.new.out c.runs.piece.items (capture_text base here.state.sent)
-        (records_text here.plan.base (ahead many here)) rest inv.gathered part.1 in
+    (records_text here.plan.base (ahead many here)) rest inv.gathered part.1 in
     let front : here.state.sent ++ ahead many here ≡ take (k + many) all =
-        ap (λ (l : List Frame). l ++ ahead many here) inv.front ∙ ap (λ (l : List Frame). take k all ++ take many (drop k l)) same ∙ sym (take-add k many all) in
+    ap (λ (l : List Frame). l ++ ahead many here) inv.front ∙ ap (λ (l : List Frame). take k all ++ take many (drop k l)) same ∙ sym (take-add k many all) in
     let whole : (capture_text base here.state.sent ++ records_text here.plan.base (ahead many here)) ++ rest ≡ capture_text base all =
-        ap (λ (p : PlanOf). (capture_text base here.state.sent ++ records_text p.base (ahead many here)) ++ rest) inv.steps.plan
-        ∙ ap (λ (l : List ℕ). l ++ rest) (sym (capture_text-append base here.state.sent (ahead many here)) ∙ ap (capture_text base) front)
-        ∙ sym (capture_text-append base (take (k + many) all) (drop (k + many) all))
-        ∙ ap (capture_text base) (take-append-drop (k + many) all) in
+    ap (λ (p : PlanOf). (capture_text base here.state.sent ++ records_text p.base (ahead many here)) ++ rest) inv.steps.plan
+    ∙ ap (λ (l : List ℕ). l ++ rest) (sym (capture_text-append base here.state.sent (ahead many here)) ∙ ap (capture_text base) front)
+    ∙ sym (capture_text-append base (take (k + many) all) (drop (k + many) all))
+    ∙ ap (capture_text base) (take-append-drop (k + many) all) in
     subst (WrotePart held c.args.out.now c.pass.new.out) whole behind
 
 pub returns-in-Err-clause-steps : goal.returns-in-Err-clause-steps

@@ -1,5 +1,5 @@
 -- A turn moves the front of the rest to what was written.
-use Rattle.std.proofs.Common.{◌≡◌, ℕ, ◌-◌, List, ◌++◌, length, take, drop, sym, ap, ◌∙◌, subst, arith, append_assoc, take-append-drop}
+use Rattle.std.proofs.Common.{◌≡◌, ℕ, List, ◌++◌, take, drop, sym, ap, ◌∙◌, subst, arith, append_assoc, take-append-drop}
 use Rattle.std.proofs.lemmas.List.{length-take-le, take_rest}
 use Rattle.trex_io.specs.Texts.{Writes, WrotePart}
 use Rattle.trex_io.proofs.FaultLemmas.{HasCause-failed}

@@ -1,4 +1,4 @@
-use Rattle.std.proofs.Common.{◌≡◌, ◌+◌, ◌∙◌, Option, ap, arith, subst, sym}
+use Rattle.std.proofs.Common.{◌+◌, ◌∙◌, Option, ap, arith, subst, sym}
 use Rattle.trex_merge.specs.declared.key.Key.{Key}
 use Rattle.trex_run.specs.Ready.{queues_of}
 use Rattle.trex_run.specs.Step.{earlier_key}

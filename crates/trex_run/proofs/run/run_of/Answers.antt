@@ -1,4 +1,4 @@
-use Rattle.std.proofs.Common.{◌≡◌, List, map, take, ap, sym, ◌∙◌, subst}
+use Rattle.std.proofs.Common.{List, map, take, ap, sym, ◌∙◌, subst}
 use Rattle.std.specs.List.{AllByRecursion}
 use Rattle.trex_core.specs.Records.{waiting_of}
 use Rattle.trex_core.specs.Texts.{records_text}

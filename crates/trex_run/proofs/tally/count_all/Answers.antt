@@ -1,4 +1,4 @@
-use Rattle.std.proofs.Common.{◌≡◌, ◌+◌, List, drop, ap, sym, ◌∙◌, subst, arith}
+use Rattle.std.proofs.Common.{◌+◌, List, drop, ap, sym, ◌∙◌, subst, arith}
 use Rattle.trex_report.specs.declared.report.Tally.{Tally}
 use Rattle.trex_run.specs.Tallies.{AtMostPackets, all_counted}
 use Rattle.trex_run.proofs.TallyLemmas.{AtMostPackets-counted, AtMostPackets-more, count_step, small_at}
