@@ -499,3 +499,75 @@ length-insert rs x new up is =
       | false ↦ λ absent. length-insert_new x (numbers rs) absent
     ] same in
     rw is (both (has (numbers rs) x) refl)
+
+-- ---- a number that lies apart from the last range
+
+-- behind a gap it is a range of its own
+pub behind_gap : (rs : List (ℕ × ℕ)) (first last number : ℕ) → Ascend 0 (rs ++ (first, last) ∷ []) → last + 2 ≤ number → number < 2 ^ 64
+    → Gains (rs ++ (first, last) ∷ []) ((rs ++ (first, last) ∷ []) ++ (number, number) ∷ []) number
+unfolding cut_new joins_none
+behind_gap rs first last number up apart fits =
+    let whole = rs ++ (first, last) ∷ [] in
+    let c = cut_new whole whole [] number (sym (append-nil whole)) up (rw (past-push 0 rs (first, last)) apart) tt in
+    gained whole number number number c (joins_none [] number tt fits)
+
+-- before the last range, a number is there where the others have it
+pub has_others : (rs : List (ℕ × ℕ)) (r : ℕ × ℕ) (number : ℕ) → Ascend 0 (rs ++ r ∷ []) → number < r.0 → has (numbers (rs ++ r ∷ [])) number ≡ has (numbers rs) number
+has_others rs r number up less =
+    let last = Ascend-back 0 rs (r ∷ []) up in
+    ap (λ l. has l number) (flat_map-append span rs (r ∷ []))
+    ∙ has-append (numbers rs) (numbers (r ∷ [])) number
+    ∙ rw (has_under number (number + 1) (r ∷ []) (omega (arith, less), last.1, last.2, tt) (omega arith)) (or-false (has (numbers rs) number))
+
+-- a number that goes before some others goes in among those before them
+insert_front : (x : ℕ) (xs ys : List ℕ) → insert_key nat_cmp ys x ≡ x ∷ ys → insert_key nat_cmp (xs ++ ys) x ≡ insert_key nat_cmp xs x ++ ys
+insert_front x [] ys here = here
+insert_front x (y ∷ xs) ys here =
+    elim (cases_lt x y) [
+      | inl less ↦ rw (cmp_less x y less) refl
+      | inr not_below ↦ elim (cases_lt y x) [
+        | inl above ↦ rw (cmp_more x y above) (ap (λ l. y ∷ l) (insert_front x xs ys here))
+        | inr same ↦ rw (cmp_same x y (omega arith)) refl
+      ]
+    ]
+
+insert_up_to : (g x : ℕ) (xs : List ℕ) → x ≤ g → AllByRecursion (λ y. y ≤ g) xs → AllByRecursion (λ y. y ≤ g) (insert_key nat_cmp xs x)
+insert_up_to g x [] le all = (le, tt)
+insert_up_to g x (y ∷ xs) le all =
+    elim (cases_lt x y) [
+      | inl less ↦ rw (cmp_less x y less) (le, all)
+      | inr not_below ↦ elim (cases_lt y x) [
+        | inl above ↦ rw (cmp_more x y above) (all.0, insert_up_to g x xs le all.1)
+        | inr same ↦ rw (cmp_same x y (omega arith)) all
+      ]
+    ]
+
+-- where all numbers of a range and of others are no more than one, so is the last of the range
+span_within : (g n a : ℕ) (ys : List ℕ) → AllByRecursion (λ y. y ≤ g) (range_with_len a n ++ ys) → 0 < n → (a + n ≤ g + 1) × AllByRecursion (λ y. y ≤ g) ys
+span_within g zero a ys all some = absurd (omega arith)
+span_within g (suc zero) a ys all some = (omega (arith, all.0), all.1)
+span_within g (suc (suc n)) a ys all some = let rest = span_within g (suc n) (a + 1) ys all.1 (omega arith) in (omega (arith, rest.0), rest.1)
+
+past_within : (g low : ℕ) (rs : List (ℕ × ℕ)) → Ascend low rs → low ≤ g + 2 → AllByRecursion (λ y. y ≤ g) (numbers rs) → past low rs ≤ g + 2
+past_within g low [] up le all = le
+past_within g low (r ∷ rs) (begins, some, fits, more) le all =
+    let here = span_within g (r.1 + 1 - r.0) r.0 (numbers rs) all (omega arith) in
+    past_within g (r.1 + 2) rs more (omega (arith, here.0, some)) here.1
+
+-- before a gap it goes in among the others
+pub before_gap : (old new : List (ℕ × ℕ)) (r : ℕ × ℕ) (number : ℕ) → Ascend 0 (old ++ r ∷ []) → number + 2 ≤ r.0 → Gains old new number → Gains (old ++ r ∷ []) (new ++ r ∷ []) number
+before_gap old new r number up apart gains =
+    let last = Ascend-back 0 old (r ∷ []) up in
+    let front = Ascend-front 0 old (r ∷ []) up in
+    let g = r.0 - 2 in
+    let others : AllByRecursion (λ y. y ≤ g) (numbers old) = numbers_up_to g 0 old front (omega (arith, last.0, apart)) in
+    let all : AllByRecursion (λ y. y ≤ g) (numbers new) = rw gains.gains (insert_up_to g number (numbers old) (omega (arith, apart)) others) in
+    let low : past 0 new ≤ r.0 = omega (arith, apart, past_within g 0 new gains.ascend (omega arith) all) in
+    let behind : Ascend (number + 1) (r ∷ []) = (omega (arith, apart), last.1, last.2, tt) in
+    record {
+      ascend = Ascend-append 0 new (r ∷ []) gains.ascend (low, last.1, last.2, tt);
+      gains =
+          flat_map-append span new (r ∷ [])
+          ∙ ap (λ l. l ++ numbers (r ∷ [])) gains.gains
+          ∙ sym (ap (λ l. insert_key nat_cmp l number) (flat_map-append span old (r ∷ [])) ∙ insert_front number (numbers old) (numbers (r ∷ [])) (insert_before number (r ∷ []) behind));
+    }

@@ -96,7 +96,8 @@ impl SeqRanges {
     }
 }
 
-/// Takes in a number that lies apart from the last range: this one goes back into the map, the number goes in among the ranges there, and
+/// Takes in a number that lies apart from the last range. Behind a gap it is a new last range, and the old one goes into the map. Before a
+/// gap it goes in among the ranges of the map. Just before the last range, this one goes back into the map, the number goes in there, and
 /// the last one then comes out again. Out of memory, the ranges are as before.
 fn insert_apart(
     ranges: &mut BTreeMap<u64, u64>,
@@ -110,6 +111,16 @@ fn insert_apart(
     ensures err { OnErr result (with_tail ranges.new.entries tail.new ≡ with_tail ranges.old.entries tail.old) }
     ensures none { IfNone tail.new (ranges.new.entries ≡ []) }
 {
+    if let Some((first, last)) = *tail {
+        if last < number && number - last > 1 {
+            put_back(ranges, *tail)?;
+            *tail = Some((number, number));
+            return Ok(true);
+        }
+        if number < first && first - number > 1 {
+            return insert_into(ranges, number);
+        }
+    }
     put_back(ranges, *tail)?;
     let answer = insert_into(ranges, number);
     *tail = take_last(ranges);

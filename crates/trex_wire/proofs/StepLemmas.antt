@@ -18,7 +18,6 @@ came_at ask j i time = came_by ask j i time (word_at ask.seed 0 (3 * i)) (word_a
 abbrev one_at : ℕ → WireSpec → ℕ → ℕ
 one_at n ask i = one_with n ask (word_at ask.seed 0 (3 * i))
 
-
 -- a lane of one more record has its copy more
 lane_more : (ask : WireSpec) (j i : ℕ) (rs : List Seen) (r : Seen) → lane ask j i (rs ++ r ∷ []) ≡ lane ask j i rs ++ came_at ask j (i + length rs) r.time
 lane_more ask j i [] r = append-nil (came_at ask j i r.time) ∙ ap (λ (n : ℕ). came_at ask j n r.time) (sym (add-zero i))

@@ -1,13 +1,13 @@
 // What a stream's instructions come to in a program.
 
-ghost use Rattle.std.specs.Prelude.{◌≡◌, ◌≤◌, length, map, IfOk};
+ghost use Rattle.std.specs.Prelude.{◌≡◌, ◌≤◌, ◌++◌, length, map, IfOk};
 ghost use Rattle.trex_vm.specs.declared.instr.Instr.TheVariants.{Write as WriteInstr};
 ghost use Rattle.trex_profile.specs.Answer.{Gives};
 ghost use Rattle.trex_profile.specs.Given.{given_of};
 ghost use Rattle.trex_profile.specs.InstrRules.{unknown_rule};
 ghost use Rattle.trex_profile.specs.Instruction.{instruction};
 ghost use Rattle.trex_profile.specs.Order.{first_each, unless};
-ghost use Rattle.trex_profile.specs.Steps.{field_of, byte_at, write_at, fixes, l4_kind, resolved, step, program_of};
+ghost use Rattle.trex_profile.specs.Steps.{field_of, byte_at, write_at, fixes, l4_kind, resolved, step, instrs_of, program_of};
 
 use crate::fault::StreamFault;
 use crate::instructions::names::{GivenName, operand_of};
@@ -184,21 +184,29 @@ pub(crate) fn steps_of(
     Ok(steps)
 }
 
+/// Puts the instructions of a step behind others.
+fn put(instrs: &mut Vec<Instr>, step: Step) -> Result<(), Memory>
+    ensures { IfOk result (λ _. instrs.new.items ≡ instrs.old.items ++ instrs_of step) }
+{
+    match step {
+        Step::Makes | Step::MissesField => {}
+        Step::Does(instr) => instrs.push(instr)?,
+        Step::FixesHeader { at, .. } => instrs.push(Instr::FixIpv4 { at })?,
+        Step::FixesSegment { ip, header, kind } => {
+            instrs.push(Instr::FixIpv4 { at: ip })?;
+            instrs.push(Instr::FixL4 { ip, header, kind })?;
+        }
+    }
+    Ok(())
+}
+
 /// The program of steps.
 pub(crate) fn program_of(alloc: Global, steps: &[Step]) -> Result<Vec<Instr>, Memory>
     ensures { IfOk result (λ instrs. instrs.items ≡ program_of steps.now) }
 {
     let mut instrs = Vec::new(alloc);
     for step in steps {
-        match *step {
-            Step::Makes | Step::MissesField => {}
-            Step::Does(instr) => instrs.push(instr)?,
-            Step::FixesHeader { at, .. } => instrs.push(Instr::FixIpv4 { at })?,
-            Step::FixesSegment { ip, header, kind } => {
-                instrs.push(Instr::FixIpv4 { at: ip })?;
-                instrs.push(Instr::FixL4 { ip, header, kind })?;
-            }
-        }
+        put(&mut instrs, *step)?;
     }
     Ok(instrs)
 }

@@ -1,5 +1,6 @@
-use Rattle.std.proofs.Common.{◌≡◌, ℕ, ◌<◌, List, length, get_or, map, drop, Option, None, Some, Ok, Err, ◌∙◌, option_map, sym, subst, ap, arith}
+use Rattle.std.proofs.Common.{◌≡◌, ℕ, ◌<◌, List, All, length, get_or, map, drop, Option, None, Some, Ok, Err, ◌∙◌, option_map, sym, subst, ap, arith}
 use Rattle.std.proofs.lemmas.Grind.{common_steps}
+use Rattle.std.proofs.lemmas.List.Elements.{All-push}
 use Rattle.serde_json.specs.Data.{Data}
 use Rattle.serde_json.specs.View.{view}
 use Rattle.trex_profile.specs.declared.fault.Fault.{Fault}
@@ -9,7 +10,7 @@ use Rattle.trex_profile.specs.declared.refusal.Refusal.{Refusal}
 use Rattle.trex_profile.specs.Answer.{Fails, fault_at}
 use Rattle.trex_profile.specs.Order.{first_each, unless}
 use Rattle.trex_profile.specs.Refusal.{in_stream}
-use Rattle.trex_profile.specs.Stream.{Stream, raw_stream}
+use Rattle.trex_profile.specs.Stream.{Stream, raw_stream, IsRawStream}
 use Rattle.trex_profile.proofs.OrderLemmas.{first_each-here, first_each-next, unless-kept}
 use Rattle.trex_json.specs.Shape.{entry_rules, entry_stream, shape_refusal}
 use Rattle.trex_json.proofs.Each.{map-one_more}
@@ -41,7 +42,8 @@ loop-at-preserved c =
       made = map-one_more raw_stream entry_stream view items at item c.loop-at.streams.items _ c.in-Ok.stream (omega arith) c.index-entries-at.is
           c.in_ok-push-in-Ok.ensures.items c.loop-at.invariant.made kept.1;
       count = grind (arith, common_steps);
-      ranges = grind (arith, common_steps);
+      ranges = subst (All IsRawStream) (sym c.in_ok-push-in-Ok.ensures.items)
+          (All-push IsRawStream c.loop-at.streams.items c.in-Ok.stream c.loop-at.invariant.ranges c.in-Ok.ensures.ranges);
     }
 
 pub returns-in-Err-clause-value : goal.returns-in-Err-clause-value
@@ -52,3 +54,6 @@ returns-in-Err-clause-value c =
     let meant = map entry_stream (map view items) in
     subst (λ fault. Fails fault (unless all meant)) (sym c.in_stream.ensures)
     (fails-at view items c.loop-at.at item c.in-Err.fault (entry_stream (view item)) all meant (omega arith) c.index-entries-at.is c.in-Err.ensures.value c.loop-at.invariant.left)
+
+pub returns-clause-ranges : goal.returns-clause-ranges
+returns-clause-ranges c = c.loop-at.invariant.ranges

@@ -26,3 +26,6 @@ loop-at-preserved c =
       ranges = subst (All IsRawInstr) (sym (ap (map instruction) pushed ∙ map-append instruction c.loop-at.instrs.items (c.in-Ok.instr ∷ [])))
           (All-push IsRawInstr (map instruction c.loop-at.instrs.items) (instruction c.in-Ok.instr) c.loop-at.invariant.ranges c.in-Ok.ensures.range);
     }
+
+pub returns-clause-ranges : goal.returns-clause-ranges
+returns-clause-ranges c = c.loop-at.invariant.ranges

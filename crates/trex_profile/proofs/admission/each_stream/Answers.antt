@@ -19,3 +19,6 @@ loop-raw-preserved c =
       specs = subst (All IsMember) (sym c.in_ok-push-in-Ok.ensures.items) (All-push IsMember c.loop-raw.members.items c.in-Ok.member c.loop-raw.invariant.specs c.in-Ok.ensures.spec);
       left = grind (arith, common_steps, c.in-Some.ensures.steps, c.in-Ok.ensures.value);
     }
+
+pub returns-clause-specs : goal.returns-clause-specs
+returns-clause-specs c = c.loop-raw.invariant.specs

@@ -32,3 +32,14 @@ loop-step-preserved c =
 
 pub returns-clause-value : goal.returns-clause-value
 returns-clause-value c = visit-out _ c.args.links.now c.loop-step.order.items c.loop-step.at c.args.start (omega arith) c.loop-step.invariant.left
+
+pub returns-in-Some-clause-within : goal.returns-in-Some-clause-within
+returns-in-Some-clause-within c = c.loop-step.invariant.within
+
+pub returns-clause-within : goal.returns-clause-within
+returns-clause-within c = c.loop-step.invariant.within
+
+pub returns-in-None-clause-within : goal.returns-in-None-clause-within
+returns-in-None-clause-within c =
+    subst (All (λ at. at < length c.args.links.now)) (sym c.in_ok-push.ensures.items)
+    (All-push (λ at. at < length c.args.links.now) c.loop-step.order.items c.loop-step.at c.loop-step.invariant.within c.loop-step.invariant.here)

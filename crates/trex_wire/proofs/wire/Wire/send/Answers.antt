@@ -40,9 +40,16 @@ invariant_of-self-2 c =
     let few : length c.push.new.self.items ≤ 100000000 =
     omega (arith, ap length kept, length-append old.glimpses.items (c.of.result ∷ []), c.requires.few, ap (λ (s : Sent). length s.glimpses) c.self.view_is) in
     let short : AllByRecursion IsShort c.push.new.self.items =
-    rw (c.in_ok-push.ensures.items, c.of.ensures) (all-append IsShort old.glimpses.items (_ ∷ []) c.self.invariant.2 (short_of c.args.bytes.now c.args.original c.requires.short, tt)) in
-    (c.self.invariant.0, few, short, (rs ++ r ∷ [], carries_more _ rs carried _ r c.len-place.result words place more (drawn.copies old.ask.seed (3 * length rs) carried.generator) (drawn.first old.ask.seed (3 * length rs) carried.generator)
-    (drawn.second old.ask.seed (3 * length rs) carried.generator) (drawn.stands old.ask.seed (3 * length rs) carried.generator)))
+    rw (c.in_ok-push.ensures.items, c.of.ensures) (all-append IsShort old.glimpses.items (_ ∷ []) c.self.invariant.2 (short_of c.args.bytes.now c.args.original c.requires.short, tt)) in (
+      c.self.invariant.0,
+      few,
+      short,
+      (
+        rs ++ r ∷ [],
+        carries_more _ rs carried _ r c.len-place.result words place more (drawn.copies old.ask.seed (3 * length rs) carried.generator) (drawn.first old.ask.seed (3 * length rs) carried.generator)
+            (drawn.second old.ask.seed (3 * length rs) carried.generator) (drawn.stands old.ask.seed (3 * length rs) carried.generator),
+      ),
+    )
 
 pub returns-clause-sent : goal.returns-clause-sent
 returns-clause-sent c rs carries =
