@@ -16,7 +16,8 @@ use Rattle.trex_profile.specs.Links.{links}
 use Rattle.trex_profile.specs.Packets.{packet_of}
 use Rattle.trex_profile.specs.Stream.{Stream}
 use Rattle.trex_profile.specs.Visits.{link_at, round_of}
-use Rattle.trex_run.specs.Capture.{capture, capture_text, packet_at, sequence}
+use Rattle.trex_core.specs.Texts.{packet_at}
+use Rattle.trex_run.specs.Capture.{capture, capture_text, sequence}
 use Rattle.trex_sched.specs.declared.chain.Leg.{Leg}
 use Rattle.trex_sched.specs.declared.mode.Mode.TheVariants.{SingleBurst}
 use Rattle.trex_sched.specs.declared.period.Period.{Period}

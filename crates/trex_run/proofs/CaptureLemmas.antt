@@ -1,9 +1,9 @@
 -- A text that is written in pieces, and the records of packets as such a text.
-use Rattle.std.proofs.Common.{◌≡◌, ℕ, ◌+◌, ◌≤◌, List, [], ◌∷◌, ◌++◌, length, map, sum_by, take, drop, slice_get, Option, Some, sym, ap, ◌∙◌, subst, append_assoc, append-nil, zero-add}
+use Rattle.std.proofs.Common.{◌≡◌, ℕ, ◌+◌, ◌≤◌, List, [], ◌∷◌, ◌++◌, length, map, sum_by, take, drop, slice_get, Option, Some, Result, Ok, Err, OnOk, OnErr, sym, ap, ◌∙◌, subst, append_assoc, append-nil, zero-add}
 use Rattle.std.specs.List.{flat_map}
 use Rattle.std.proofs.lemmas.List.{map-append}
 use Rattle.std.proofs.lemmas.Grind.{flat_map-append}
-use Rattle.trex_io.specs.Texts.{WrotePart}
+use Rattle.trex_io.specs.Texts.{Writes, WrotePart}
 use Rattle.trex_io.proofs.TextLemmas.{Wrote-after, WrotePart-after, WrotePart-longer}
 use Rattle.trex_pcap.specs.Writing.{Packet, file_header, record_of, capture_of}
 use Rattle.trex_run.specs.Pieces.{WrittenAndPending}
@@ -13,7 +13,8 @@ use Rattle.std.proofs.lemmas.List.Sums.{sum_by_push}
 use Rattle.trex_merge.specs.Frames.{Frame}
 use Rattle.trex_sum.specs.Checksum.{fold_of, sum_of}
 use Rattle.trex_run.specs.declared.counts.Counts.{Counts}
-use Rattle.trex_run.specs.Capture.{capture_text, packet_at}
+use Rattle.trex_core.specs.Texts.{packet_at, records_text}
+use Rattle.trex_run.specs.Capture.{capture_text}
 use Rattle.trex_run.specs.Counts.{counts_of}
 
 module _ {K : Type 0} (held : K → Option (List ℕ)) (a b c : K) (piece text : List ℕ) where
@@ -25,10 +26,40 @@ module _ {K : Type 0} (held : K → Option (List ℕ)) (a b c : K) (piece text :
     ap (λ l. l ++ record_text) is ∙ append_assoc front piece record_text ∙ ap (λ l. front ++ l) is' ∙ sym (append_assoc front front' piece'),
   )
 
+  -- the piece and what is to come behind it are written in part
+  pub WrittenAndPending-behind : (behind rest : List ℕ) → WrittenAndPending held a b piece text → WrotePart held b c (piece ++ behind) → WrotePart held a c ((text ++ behind) ++ rest)
+  WrittenAndPending-behind behind rest (front, first, is) part =
+      WrotePart-longer held a c (text ++ behind) rest
+      (subst (WrotePart held a c) (sym (append_assoc front piece behind) ∙ ap (λ l. l ++ behind) (sym is)) (WrotePart-after held a b c front (piece ++ behind) first part))
+
   -- the piece is written in part
   pub WrittenAndPending-part : (rest : List ℕ) → WrittenAndPending held a b piece text → WrotePart held b c piece → WrotePart held a c (text ++ rest)
   WrittenAndPending-part rest (front, first, is) part =
       WrotePart-longer held a c text rest (subst (WrotePart held a c) (sym is) (WrotePart-after held a b c front piece first part))
+
+-- a text that is written itself, where the piece is empty
+pub written_itself : {K T E : Type 0} (held : K → Option (List ℕ)) (faults : K → ℕ) (a b c : K) (result : Result T E) (piece piece' text : List ℕ)
+    → WrittenAndPending held a b piece' piece → piece' ≡ [] → Writes held faults b c result text
+    → OnOk result (WrittenAndPending held a c piece' (piece ++ text)) × OnErr result (WrotePart held a c (piece ++ text))
+written_itself held faults a b c (Ok x) piece piece' text (front, wrote, is) empty writes =
+    let all : piece ≡ front = is ∙ ap (λ l. front ++ l) empty ∙ append-nil front in (
+      (
+        front ++ text,
+        Wrote-after held a b c front text wrote writes.whole,
+        ap (λ l. l ++ text) all ∙ sym (append-nil (front ++ text)) ∙ ap (λ l. (front ++ text) ++ l) (sym empty),
+      ),
+      tt,
+    )
+written_itself held faults a b c (Err e) piece piece' text (front, wrote, is) empty writes =
+    let all : piece ≡ front = is ∙ ap (λ l. front ++ l) empty ∙ append-nil front in
+    (tt, subst (λ l. WrotePart held a c (l ++ text)) (sym all) (WrotePart-after held a b c front text wrote writes.part))
+
+-- some packets more are their records more
+pub capture_text-append : (base : ℕ) (xs ys : List Frame) → capture_text base (xs ++ ys) ≡ capture_text base xs ++ records_text base ys
+capture_text-append base xs ys =
+    ap capture_of (map-append (packet_at base) xs ys)
+    ∙ ap (λ l. file_header ++ l) (flat_map-append record_of (map (packet_at base) xs) (map (packet_at base) ys))
+    ∙ sym (append_assoc file_header (flat_map record_of (map (packet_at base) xs)) (flat_map record_of (map (packet_at base) ys)))
 
 -- one packet more is one record more
 pub capture_of-more : {X : Type 0} (f : X → Packet) (slots : List X) (slot : X) → capture_of (map f (slots ++ slot ∷ [])) ≡ capture_of (map f slots) ++ record_of (f slot)

@@ -21,7 +21,8 @@ use Rattle.trex_stamp.specs.declared.header.Version.TheVariants.{One, Two}
 use Rattle.trex_stamp.specs.Stamp.{IsStamp, stamp_bytes, stamp_of}
 use Rattle.trex_stats.specs.Counts.{arrival_in, arrivals, stamp_at as record_stamp, whole_stamp}
 use Rattle.trex_stats.specs.Laws.{AreAsSent}
-use Rattle.trex_run.specs.Capture.{packet_at, sent_of}
+use Rattle.trex_core.specs.Texts.{packet_at}
+use Rattle.trex_run.specs.Capture.{sent_of}
 use Rattle.trex_run.specs.Clean.{OwnsFlow, has_flow}
 use Rattle.trex_run.proofs.StateLemmas.{IsShortStream, short_at}
 

@@ -2,6 +2,8 @@ mod ListLemmas
 mod TallyLemmas
 mod CaptureLemmas
 mod MillLemmas
+mod BaseLemmas
+mod PassLemmas
 pub mod RoundsLemmas
 mod ShareLemmas
 mod TurnLemmas

@@ -13,7 +13,7 @@ pub take-next : {A : Type 0} (k : ℕ) (xs : List A) (x : A) → slice_get (drop
 take-next k xs x next = rw add-one (take_suc-next k xs x next)
 
 -- the first k are the front of the first m
-take_split : {A : Type 0} (k m : ℕ) (xs : List A) → k ≤ m → take k (take m xs) ≡ take k xs
+pub take_split : {A : Type 0} (k m : ℕ) (xs : List A) → k ≤ m → take k (take m xs) ≡ take k xs
 take_split zero m xs within = refl
 take_split (suc k) zero xs within = absurd (omega arith)
 take_split (suc k) (suc m) [] within = refl

@@ -41,7 +41,7 @@ pub record IsSent (frames : List Frame) (works : List Work) (rounds limit sent :
 
 pub after_emit : (frames : List Frame) (works works' : List Work) (rounds limit sent sent' : ℕ) (next next' : Next) → IsReady frames works rounds limit sent next
     → queues_of works' ≡ queues_after next (queues_of works)
-    → map (λ (w : Work). w.core ∷ w.turns ∷ []) works' ≡ map (λ (w : Work). w.core ∷ w.turns ∷ []) works
+    → map (λ (w : Work). w.core ∷ w.turns ∷ w.base ∷ []) works' ≡ map (λ (w : Work). w.core ∷ w.turns ∷ w.base ∷ []) works
     → sent' ≡ sent + packet_ahead next → next' ≡ next_of (limit - sent') (queues_of works')
     → IsSent frames works' rounds limit sent' next'
 after_emit frames works works' rounds limit sent sent' next next' ready queues marks count is' =
@@ -137,7 +137,7 @@ pub record IsGone (frames : List Frame) (works between works' : List Work) (roun
 pub gone : (frames : List Frame) (works between works' : List Work) (rounds rounds' limit sent sent' : ℕ) (next after next' : Next)
     → IsReady frames works rounds limit sent next
     → queues_of between ≡ queues_after next (queues_of works)
-    → map (λ (w : Work). w.core ∷ w.turns ∷ []) between ≡ map (λ (w : Work). w.core ∷ w.turns ∷ []) works
+    → map (λ (w : Work). w.core ∷ w.turns ∷ w.base ∷ []) between ≡ map (λ (w : Work). w.core ∷ w.turns ∷ w.base ∷ []) works
     → sent' ≡ sent + packet_ahead next → after ≡ next_of (limit - sent') (queues_of between)
     → works' ≡ works_after turned after between → rounds' ≡ rounds_after after rounds → next' ≡ next_of (limit - sent') (queues_of works')
     → IsGone frames works between works' rounds' limit sent sent' after next'
@@ -168,7 +168,7 @@ gone frames works between works' rounds rounds' limit sent sent' next after next
 pub gone_to : (frames : List Frame) (works between works' : List Work) (rounds same_rounds rounds' limit same_limit sent sent' : ℕ) (next after next' : Next)
     → IsReady frames works rounds limit sent next
     → queues_of between ≡ queues_after next (queues_of works)
-    → map (λ (w : Work). w.core ∷ w.turns ∷ []) between ≡ map (λ (w : Work). w.core ∷ w.turns ∷ []) works
+    → map (λ (w : Work). w.core ∷ w.turns ∷ w.base ∷ []) between ≡ map (λ (w : Work). w.core ∷ w.turns ∷ w.base ∷ []) works
     → same_rounds ≡ rounds → sent' ≡ sent + packet_ahead next → same_limit ≡ limit → after ≡ next_of (same_limit - sent') (queues_of between)
     → works' ≡ works_after turned after between → rounds' ≡ rounds_after after same_rounds → next' ≡ next_of (same_limit - sent') (queues_of works')
     → IsGone frames works between works' rounds' limit sent sent' after next'
@@ -204,55 +204,55 @@ none_waits [] at waiting none there = cc
 none_waits (w ∷ works) zero waiting none there = let here = none.0 in cc
 none_waits (w ∷ works) (suc at) waiting none there = none_waits works at waiting none.1 there
 
-first_none : (frames : List Frame) (cores from count : ℕ) → AllByRecursion (λ work. work.queue.waiting ≡ []) (map (first_work cores frames) (range_with_len from count))
-first_none frames cores from zero = tt
-first_none frames cores from (suc count) = (refl, first_none frames cores (from + 1) count)
+first_none : (base : ℕ) (frames : List Frame) (cores from count : ℕ) → AllByRecursion (λ work. work.queue.waiting ≡ []) (map (first_work base cores frames) (range_with_len from count))
+first_none base frames cores from zero = tt
+first_none base frames cores from (suc count) = (refl, first_none base frames cores (from + 1) count)
 
 -- no turn was taken
-first_turns : (frames : List Frame) (cores from count most : ℕ) → AllByRecursion (λ work. work.turns ≤ most) (map (first_work cores frames) (range_with_len from count))
-first_turns frames cores from zero most = tt
-first_turns frames cores from (suc count) most = (omega arith, first_turns frames cores (from + 1) count most)
+first_turns : (base : ℕ) (frames : List Frame) (cores from count most : ℕ) → AllByRecursion (λ work. work.turns ≤ most) (map (first_work base cores frames) (range_with_len from count))
+first_turns base frames cores from zero most = tt
+first_turns base frames cores from (suc count) most = (omega arith, first_turns base frames cores (from + 1) count most)
 
 -- what is to come is the cores' shares
-first_queues : (frames : List Frame) (cores from count : ℕ)
-    → queues_of (map (first_work cores frames) (range_with_len from count))
+first_queues : (base : ℕ) (frames : List Frame) (cores from count : ℕ)
+    → queues_of (map (first_work base cores frames) (range_with_len from count))
     ≡ map (λ (l : List Frame). record { waiting = []; coming = l }) (map (λ core. share core cores frames) (range_with_len from count))
-first_queues frames cores from zero = refl
-first_queues frames cores from (suc count) =
-    ap (λ (l : List Queue). record { waiting = []; coming = share from cores frames } ∷ l) (first_queues frames cores (from + 1) count)
+first_queues base frames cores from zero = refl
+first_queues base frames cores from (suc count) =
+    ap (λ (l : List Queue). record { waiting = []; coming = share from cores frames } ∷ l) (first_queues base frames cores (from + 1) count)
 
 -- the works are in order of core
-first_cores : (frames : List Frame) (cores from count : ℕ) → map (λ (w : Work). w.core) (map (first_work cores frames) (range_with_len from count)) ≡ range_with_len from count
-first_cores frames cores from zero = refl
-first_cores frames cores from (suc count) = ap (λ (l : List ℕ). from ∷ l) (first_cores frames cores (from + 1) count)
+first_cores : (base : ℕ) (frames : List Frame) (cores from count : ℕ) → map (λ (w : Work). w.core) (map (first_work base cores frames) (range_with_len from count)) ≡ range_with_len from count
+first_cores base frames cores from zero = refl
+first_cores base frames cores from (suc count) = ap (λ (l : List ℕ). from ∷ l) (first_cores base frames cores (from + 1) count)
 
-first_none_waits : (frames : List Frame) (cores from count : ℕ) → AllByRecursion (λ queue. queue.waiting ≡ []) (queues_of (map (first_work cores frames) (range_with_len from count)))
-first_none_waits frames cores from zero = tt
-first_none_waits frames cores from (suc count) = (refl, first_none_waits frames cores (from + 1) count)
+first_none_waits : (base : ℕ) (frames : List Frame) (cores from count : ℕ) → AllByRecursion (λ queue. queue.waiting ≡ []) (queues_of (map (first_work base cores frames) (range_with_len from count)))
+first_none_waits base frames cores from zero = tt
+first_none_waits base frames cores from (suc count) = (refl, first_none_waits base frames cores (from + 1) count)
 
 -- no packet comes next
-nothing_comes : (frames : List Frame) (cores limit : ℕ) (next : Next) → next ≡ next_of (limit - 0) (queues_of (first_works cores frames)) → packet_ahead next ≡ 0
-nothing_comes frames cores limit (Need core) is = refl
-nothing_comes frames cores limit End is = refl
-nothing_comes frames cores limit (Packet at) is =
-    let least = packet_is_least (limit - 0) at (queues_of (first_works cores frames)) (sym is) in
-    let none = none_waits (first_works cores frames) at (least.frame ∷ least.rest) (first_none frames cores 0 cores) least.there in
+nothing_comes : (base : ℕ) (frames : List Frame) (cores limit : ℕ) (next : Next) → next ≡ next_of (limit - 0) (queues_of (first_works base cores frames)) → packet_ahead next ≡ 0
+nothing_comes base frames cores limit (Need core) is = refl
+nothing_comes base frames cores limit End is = refl
+nothing_comes base frames cores limit (Packet at) is =
+    let least = packet_is_least (limit - 0) at (queues_of (first_works base cores frames)) (sym is) in
+    let none = none_waits (first_works base cores frames) at (least.frame ∷ least.rest) (first_none base frames cores 0 cores) least.there in
     cc
 
 pub record IsBegun (frames : List Frame) (works : List Work) (limit : ℕ) (next : Next) : Type 0 where
   pub ready : IsReady frames works 0 limit 0 next
   pub none : packet_ahead next ≡ 0
 
-pub begins : (frames : List Frame) (works : List Work) (cores limit : ℕ) (next : Next) → AreDistinct key_of frames → AllByRecursion IsShort frames
-    → 0 < cores → limit ≤ 100000000 → works ≡ first_works cores frames → next ≡ next_of (limit - 0) (queues_of works)
+pub begins : (base : ℕ) (frames : List Frame) (works : List Work) (cores limit : ℕ) (next : Next) → AreDistinct key_of frames → AllByRecursion IsShort frames
+    → 0 < cores → limit ≤ 100000000 → works ≡ first_works base cores frames → next ≡ next_of (limit - 0) (queues_of works)
     → IsBegun frames works limit next
-begins frames works cores limit next distinct short some few first is =
-    let is' : next ≡ next_of (limit - 0) (queues_of (first_works cores frames)) = is ∙ ap (λ (w : List Work). next_of (limit - 0) (queues_of w)) first in
+begins base frames works cores limit next distinct short some few first is =
+    let is' : next ≡ next_of (limit - 0) (queues_of (first_works base cores frames)) = is ∙ ap (λ (w : List Work). next_of (limit - 0) (queues_of w)) first in
     let mill : IsMill frames (mill_after frames (queues_of works) 0 limit) =
-    rw (first, first_queues frames cores 0 cores) (start_is frames cores limit distinct some) in
-    let long : length works ≡ cores = ap length first ∙ length-map-range_with_len (first_work cores frames) 0 cores in
-    let shares : HaveShares cores frames (mill_after frames (queues_of works) 0 limit) = rw (first, first_queues frames cores 0 cores) (start_shares frames cores limit) in
-    let none : AllByRecursion (λ queue. queue.waiting ≡ []) (queues_of works) = rw first (first_none_waits frames cores 0 cores) in
+    rw (first, first_queues base frames cores 0 cores) (start_is frames cores limit distinct some) in
+    let long : length works ≡ cores = ap length first ∙ length-map-range_with_len (first_work base cores frames) 0 cores in
+    let shares : HaveShares cores frames (mill_after frames (queues_of works) 0 limit) = rw (first, first_queues base frames cores 0 cores) (start_shares frames cores limit) in
+    let none : AllByRecursion (λ queue. queue.waiting ≡ []) (queues_of works) = rw first (first_none_waits base frames cores 0 cores) in
     record {
       ready = record {
         is = mill;
@@ -260,13 +260,13 @@ begins frames works cores limit next distinct short some few first is =
         next_is = is;
         short = short;
         limited = few;
-        turns = rw first (first_turns frames cores 0 cores (0 + packet_ahead next));
+        turns = rw first (first_turns base frames cores 0 cores (0 + packet_ahead next));
         rounds_are = omega arith;
-        cores_are = ap (map (λ (w : Work). w.core)) first ∙ first_cores frames cores 0 cores ∙ ap (range_with_len 0) (sym long);
+        cores_are = ap (map (λ (w : Work). w.core)) first ∙ first_cores base frames cores 0 cores ∙ ap (range_with_len 0) (sym long);
         shares = subst (λ n. HaveShares n frames (mill_after frames (queues_of works) 0 limit)) (sym long) shares;
         fed = subst (λ n. HasKeptUp n frames 0 (queues_of works)) (sym long) (fed_first cores frames (queues_of works) limit shares none);
       };
-      none = nothing_comes frames cores limit next is';
+      none = nothing_comes base frames cores limit next is';
     }
 
 -- how many packets were reached
@@ -321,10 +321,10 @@ step_is entries plan works between works' rounds rounds' limit sent sent' next t
 -- ---- the works of all cores
 
 -- one core more
-pub works_more : (cores core : ℕ) (frames : List Frame) (works : List Work) → works ≡ map (first_work cores frames) (range_with_len 0 core)
-    → works ++ first_work cores frames core ∷ [] ≡ map (first_work cores frames) (range_with_len 0 (core + 1))
-works_more cores core frames works is =
-    ap (λ (l : List Work). l ++ first_work cores frames core ∷ []) is ∙ sym (range_more (first_work cores frames) 0 core core (omega arith))
+pub works_more : (base cores core : ℕ) (frames : List Frame) (works : List Work) → works ≡ map (first_work base cores frames) (range_with_len 0 core)
+    → works ++ first_work base cores frames core ∷ [] ≡ map (first_work base cores frames) (range_with_len 0 (core + 1))
+works_more base cores core frames works is =
+    ap (λ (l : List Work). l ++ first_work base cores frames core ∷ []) is ∙ sym (range_more (first_work base cores frames) 0 core core (omega arith))
   where
     range_suc : {X : Type 0} (f : ℕ → X) (from count last : ℕ) → from + count ≡ last → map f (range_with_len from (suc count)) ≡ map f (range_with_len from count) ++ f last ∷ []
     range_suc f from zero last at = let same : from ≡ last = omega arith in ap (λ n. f n ∷ []) same
@@ -334,12 +334,12 @@ works_more cores core frames works is =
     range_more f from count last at = rw add-one (range_suc f from count last at)
 
 -- the works of all cores are in order of core
-in_order : (cores : ℕ) (frames : List Frame) (from count : ℕ) → AreInOrder (λ (w : Work). w.core) from (map (first_work cores frames) (range_with_len from count))
-in_order cores frames from zero = tt
-in_order cores frames from (suc count) = (refl, in_order cores frames (from + 1) count)
+in_order : (base cores : ℕ) (frames : List Frame) (from count : ℕ) → AreInOrder (λ (w : Work). w.core) from (map (first_work base cores frames) (range_with_len from count))
+in_order base cores frames from zero = tt
+in_order base cores frames from (suc count) = (refl, in_order base cores frames (from + 1) count)
 
-pub works_in_order : (cores : ℕ) (frames : List Frame) → AreInOrder (λ (w : Work). w.core) 0 (first_works cores frames)
-works_in_order cores frames = in_order cores frames 0 cores
+pub works_in_order : (base cores : ℕ) (frames : List Frame) → AreInOrder (λ (w : Work). w.core) 0 (first_works base cores frames)
+works_in_order base cores frames = in_order base cores frames 0 cores
 
-pub works_count : (cores : ℕ) (frames : List Frame) → length (first_works cores frames) ≡ cores
-works_count cores frames = length-map-range_with_len (first_work cores frames) 0 cores
+pub works_count : (base cores : ℕ) (frames : List Frame) → length (first_works base cores frames) ≡ cores
+works_count base cores frames = length-map-range_with_len (first_work base cores frames) 0 cores

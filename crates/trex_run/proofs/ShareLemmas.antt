@@ -18,14 +18,14 @@ use Rattle.trex_run.specs.Rounds.{HasKeptUp, IsEnoughRounds}
 -- ---- the cores of the works
 
 -- works with the same marks have the same cores
-pub cores_by_marks : (new old : List Work) → map (λ (w : Work). w.core ∷ w.turns ∷ []) new ≡ map (λ (w : Work). w.core ∷ w.turns ∷ []) old
+pub cores_by_marks : (new old : List Work) → map (λ (w : Work). w.core ∷ w.turns ∷ w.base ∷ []) new ≡ map (λ (w : Work). w.core ∷ w.turns ∷ w.base ∷ []) old
     → map (λ (w : Work). w.core) new ≡ map (λ (w : Work). w.core) old
 cores_by_marks [] [] same = refl
 cores_by_marks [] (w ∷ old) same = cc
 cores_by_marks (v ∷ new) [] same = cc
 cores_by_marks (v ∷ new) (w ∷ old) same =
     let here : v.core ≡ w.core = cc in
-    let rest : map (λ (w : Work). w.core ∷ w.turns ∷ []) new ≡ map (λ (w : Work). w.core ∷ w.turns ∷ []) old = cc in
+    let rest : map (λ (w : Work). w.core ∷ w.turns ∷ w.base ∷ []) new ≡ map (λ (w : Work). w.core ∷ w.turns ∷ w.base ∷ []) old = cc in
     let later = cores_by_marks new old rest in
     λ i. here i ∷ later i
 

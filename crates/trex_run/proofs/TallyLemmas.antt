@@ -1,11 +1,12 @@
 -- Tallies, one packet after another.
-use Rattle.std.proofs.Common.{◌≡◌, ◌≢◌, ℕ, zero, suc, ◌+◌, ◌*◌, ◌==◌, ◌<◌, ◌≤◌, true, false, List, [], ◌∷◌, ◌++◌, length, sum_by, take, drop, IsSomeAnd, slice_get, slice_set, Option, Some, None, refl, sym, ap, ◌∙◌, arith, eq-eqb, ne_eqb, append-nil, length-append, length-take}
+use Rattle.std.proofs.Common.{◌≡◌, ◌≢◌, ℕ, zero, suc, ◌+◌, ◌*◌, ◌==◌, ◌<◌, ◌≤◌, true, false, List, [], ◌∷◌, ◌++◌, length, sum_by, take, drop, IsSomeAnd, slice_get, slice_set, Option, Some, None, refl, sym, ap, ◌∙◌, subst, arith, add-one, drop-cons, get_or, eq-eqb, ne_eqb, append-nil, length-append, length-take}
 use Rattle.std.specs.List.{AllByRecursion}
 use Rattle.std.specs.Option.{option_map_or}
 use Rattle.std.proofs.lemmas.List.Elements.{filter-append}
 use Rattle.std.proofs.lemmas.List.Sums.{sum_by-append, sum_by-cons, length-filter, count_by-le-length}
 use Rattle.trex_merge.proofs.OrderLemmas.{all-filter}
-use Rattle.trex_run.specs.Tallies.{one_more, counted, AtMostPackets}
+use Rattle.trex_core.specs.declared.waiting.Waiting.{Waiting}
+use Rattle.trex_run.specs.Tallies.{one_more, all_counted, counted, AtMostPackets}
 use Rattle.trex_run.specs.State.{IsShort}
 use Rattle.trex_run.proofs.ListLemmas.{all_take}
 use Rattle.trex_merge.specs.Frames.{Frame}
@@ -132,6 +133,27 @@ AtMostPackets-front p frames limit k short few =
     let list = take k (take limit frames) in
     let long : length list ≤ limit = omega (arith, length-take k (take limit frames), length-take limit frames) in
     AtMostPackets-more (length list) 100000000 (tallies p list) (omega (arith, long)) (AtMostPackets-all p list (all_take IsShort k (take limit frames) (all_take IsShort limit frames short)))
+
+-- with a packet more
+pub AtMostPackets-counted : (k : ℕ) (ts : List Tally) (position bytes : ℕ) → bytes ≤ 9216 → AtMostPackets k ts → AtMostPackets (k + 1) (counted ts position bytes)
+AtMostPackets-counted k [] position bytes small are = tt
+AtMostPackets-counted k (t ∷ ts) zero bytes small are =
+    let packets = are.0.0 in let long = are.0.1 in
+    ((omega arith, omega arith), AtMostPackets-more k (k + 1) ts (omega arith) are.1)
+AtMostPackets-counted k (t ∷ ts) (suc j) bytes small are =
+    let packets = are.0.0 in let long = are.0.1 in
+    subst (AtMostPackets (k + 1)) (sym (counted-cons t ts j bytes)) ((omega arith, omega arith), AtMostPackets-counted k ts j bytes small are.1)
+
+-- one packet of some is counted, and the others are still to be
+pub count_step : (ts : List Tally) (packets : List Waiting) (i : ℕ) (d : Waiting) → i < length packets
+    → all_counted (counted ts (get_or packets i d).key.stream (get_or packets i d).length) (drop (i + 1) packets) ≡ all_counted ts (drop i packets)
+count_step ts packets i d within =
+    sym (ap (all_counted ts) (drop-cons packets i d within ∙ ap (λ n. get_or packets i d ∷ drop n packets) (sym (add-one i))))
+
+pub small_at : (packets : List Waiting) (i : ℕ) (d : Waiting) → i < length packets → AllByRecursion (λ packet. packet.length ≤ 9216) packets → (get_or packets i d).length ≤ 9216
+small_at [] i d within all = absurd (omega arith)
+small_at (packet ∷ packets) zero d within all = all.0
+small_at (packet ∷ packets) (suc i) d within all = small_at packets i d (omega arith) all.1
 
 -- the id alone
 pub id-of : (spec : StreamSpec) (j : ℕ) (p : List Stream) → IsSomeAnd (slice_get p j) (λ s. IsSpecOf s spec) → IsSomeAnd (slice_get p j) (λ s. spec.id ≡ s.id)

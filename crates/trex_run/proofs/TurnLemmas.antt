@@ -70,13 +70,13 @@ stems_short frames state mill short =
 -- ---- a turn of each work
 
 -- works with the same marks have the same turns
-pub turns_by_marks : (most : ℕ) (new old : List Work) → map (λ (w : Work). w.core ∷ w.turns ∷ []) new ≡ map (λ (w : Work). w.core ∷ w.turns ∷ []) old
+pub turns_by_marks : (most : ℕ) (new old : List Work) → map (λ (w : Work). w.core ∷ w.turns ∷ w.base ∷ []) new ≡ map (λ (w : Work). w.core ∷ w.turns ∷ w.base ∷ []) old
     → AllByRecursion (λ work. work.turns ≤ most) old → AllByRecursion (λ work. work.turns ≤ most) new
 turns_by_marks most [] old same all = tt
 turns_by_marks most (v ∷ new) [] same all = cc
 turns_by_marks most (v ∷ new) (w ∷ old) same all =
     let turns : v.turns ≡ w.turns = cc in
-    let rest : map (λ (w : Work). w.core ∷ w.turns ∷ []) new ≡ map (λ (w : Work). w.core ∷ w.turns ∷ []) old = cc in
+    let rest : map (λ (w : Work). w.core ∷ w.turns ∷ w.base ∷ []) new ≡ map (λ (w : Work). w.core ∷ w.turns ∷ w.base ∷ []) old = cc in
     let here = all.0 in
     (omega (arith, turns, here), turns_by_marks most new old rest all.1)
 

@@ -1,9 +1,10 @@
 -- What a run writes: the packets of a profile, in order, as a capture, and the report on them.
-use Rattle.std.specs.Prelude.{ℕ, ◌+◌, ◌*◌, ◌^◌, ◌==◌, List, [], ◌∷◌, length, map, filter, sum_by, take}
+use Rattle.std.specs.Prelude.{ℕ, ◌+◌, ◌==◌, List, [], ◌∷◌, length, map, filter, sum_by, take}
 use Rattle.trex_core.specs.Plan.{schedule, frame_at}
+use Rattle.trex_core.specs.Texts.{packet_at}
 use Rattle.trex_merge.specs.Frames.{Frame}
 use Rattle.trex_profile.specs.Stream.{Stream}
-use Rattle.trex_pcap.specs.Writing.{Packet, capture_of}
+use Rattle.trex_pcap.specs.Writing.{capture_of}
 use Rattle.trex_words.specs.declared.asked.RunAsk.{RunAsk}
 use Rattle.trex_report.specs.declared.report.Tally.{Tally}
 use Rattle.trex_report.specs.Texts.{report_text}
@@ -12,10 +13,6 @@ use Rattle.trex_report.specs.Texts.{report_text}
 -- the limit allows. Own.
 unfoldable pub sequence : List Stream → RunAsk → List Frame
 sequence p ask = map (frame_at p ask.base) (take ask.limit (schedule p ask.duration))
-
--- a packet with its absolute time: the base is in seconds since 1970
-abbrev pub packet_at : ℕ → Frame → Packet
-packet_at base frame = record { time = base * 10 ^ 9 + frame.time; bytes = frame.bytes }
 
 -- packets as a capture (pcap 2.4)
 abbrev pub capture_text : ℕ → List Frame → List ℕ

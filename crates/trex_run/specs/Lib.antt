@@ -1,7 +1,7 @@
+pub mod Pieces
 pub mod Capture
 pub mod Tallies
 pub mod Counts
-pub mod Pieces
 pub mod Rounds
 pub mod Step
 pub mod State

@@ -1,10 +1,11 @@
 -- A step of a run: what was sent is known by its number, since the order of all packets is. Own.
-use Rattle.std.specs.Prelude.{ℕ, ◌+◌, Bool, true, false, List, [], ◌∷◌, length, map, take}
+use Rattle.std.specs.Prelude.{ℕ, ◌+◌, Bool, true, false, if◌then◌else◌, Option, None, Some, List, [], ◌∷◌, length, map, replicate, take}
+use Rattle.trex_merge.specs.declared.key.Key.{Key}
 use Rattle.trex_merge.specs.declared.next.Next.{Next}
 use Rattle.trex_merge.specs.declared.next.Next.TheVariants.{Packet, Need, End}
 use Rattle.trex_merge.specs.Frames.{Frame, key_of}
 use Rattle.trex_merge.specs.Machine.{Event, Refill, Emit, MillState, happens, next_in, run}
-use Rattle.trex_merge.specs.Order.{ordered}
+use Rattle.trex_merge.specs.Order.{is_before, ordered}
 use Rattle.trex_merge.specs.Queues.{Queue, at_place, popped}
 
 -- the mill with these queues, after so many packets were sent
@@ -25,6 +26,10 @@ supplied added End state = state
 -- The packet that comes next is sent, if any, and then a round is made if a core has to be waited for.
 abbrev pub stepped : (Queue → ℕ) → MillState → MillState
 stepped added state = supplied added (next_in (happens state Emit)) (happens state Emit)
+
+-- So many packets that come next are sent one after another, and then a round is made if a core has to be waited for.
+abbrev pub passed : (Queue → ℕ) → ℕ → MillState → MillState
+passed added many state = supplied added (next_in (run (replicate many Emit) state)) (run (replicate many Emit) state)
 
 -- a packet comes next
 abbrev pub is_packet : Next → Bool
@@ -59,3 +64,9 @@ abbrev pub rounds_after : Next → ℕ → ℕ
 rounds_after (Need core) rounds = rounds + 1
 rounds_after (Packet at) rounds = rounds
 rounds_after End rounds = rounds
+
+-- of two keys the one that comes before the other, and the first where neither does
+abbrev pub earlier_key : Option Key → Option Key → Option Key
+earlier_key None other = other
+earlier_key (Some one) None = Some one
+earlier_key (Some one) (Some other) = if is_before other one then Some other else Some one

@@ -1,4 +1,4 @@
-//! A run is written as a capture. The records are joined in a piece, which is handed to the output where the next one doesn't fit.
+//! A run is written as a capture. The records are joined in a piece, which is handed to the output where the next ones don't fit.
 
 ghost use Rattle.std.specs.Prelude.{◌≡◌, ◌*◌, ◌≤◌, OnOk, OnErr};
 ghost use Rattle.std.specs.Vec.{vec_capacity};
@@ -10,15 +10,13 @@ ghost use Rattle.trex_run.specs.Pieces.{WrittenAndPending};
 ghost use Rattle.trex_run.specs.State.{AreSteps, IsThrough, all_of};
 ghost use Rattle.trex_run.specs.Step.{reached};
 
-use crate::pieces::{PIECE, gather};
+use crate::pieces::PIECE;
 use crate::progress::Progress;
 use crate::ready::Ready;
 use std::thread::Threads;
 use trex_crew::Gate;
 use trex_io::{Failed, Sink, write_all};
 use trex_pcap::header;
-
-const NANOSECONDS_PER_SECOND: u64 = 1_000_000_000;
 
 /// Begins a capture in a piece: the file header alone.
 #[tactic(auto, unfolding(trex_pcap::specs::Writing::file_header))]
@@ -36,26 +34,24 @@ fn gather_all<R: Threads + Sync, O: Sink, G: Gate>(
     rt: &R,
     progress: &mut Progress<'_>,
     piece: &mut Vec<u8>,
-    base: u32,
     out: &mut O,
     gates: &mut [G],
 ) -> Result<(), Failed>
     requires none { reached progress.old.state ≡ 0 }
-    requires base { base ≤ 3000000000 }
     requires piece { piece.old.items ≡ file_header }
     requires capacity { PIECE ≤ vec_capacity piece.old }
-    ensures gathers { OnOk result (WrittenAndPending O.held out.old out.new piece.new.items (capture_text base (all_of progress.old))) }
-    ensures part { OnErr result (WrotePart O.held out.old out.new (capture_text base (all_of progress.old))) }
+    ensures gathers { OnOk result (WrittenAndPending O.held out.old out.new piece.new.items (capture_text progress.old.plan.base (all_of progress.old))) }
+    ensures part { OnErr result (WrotePart O.held out.old out.new (capture_text progress.old.plan.base (all_of progress.old))) }
     ensures cause { HasCause O.faults out.old out.new result }
     ensures steps { AreSteps G.entries progress.old progress.new gates.old gates.new }
     ensures through { OnOk result (IsThrough progress.old progress.new) }
     ensures capacity { PIECE ≤ vec_capacity piece.new }
 {
-    let base = u64::from(base) * NANOSECONDS_PER_SECOND;
-    'packets: while progress.step(rt, gates) {
-        let head = progress.current();
-        if let Err(failed) = gather(out, piece, base + head.time, head.bytes) {
-            return Err(failed);
+    let mut found = progress.step(rt, gates);
+    'runs: while found {
+        match progress.pass(rt, piece, out, gates) {
+            Ok(more) => found = more,
+            Err(failed) => return Err(failed),
         }
     }
     Ok(())
@@ -78,7 +74,7 @@ pub fn generate<R: Threads + Sync, O: Sink, G: Gate>(
     ensures through { OnOk result (IsThrough ready.old ready.new) }
 {
     begin(&mut ready.piece);
-    if let Err(failed) = gather_all(rt, &mut ready.progress, &mut ready.piece, base, out, gates) {
+    if let Err(failed) = gather_all(rt, &mut ready.progress, &mut ready.piece, out, gates) {
         return Err(failed);
     }
     write_all(out, &ready.piece)

@@ -8,6 +8,7 @@ mod laws;
 mod pieces;
 mod progress;
 mod ready;
+mod run;
 mod step;
 mod tally;
 

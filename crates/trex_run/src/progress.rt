@@ -1,22 +1,30 @@
 //! How far a run has come, and its steps.
 
-ghost use Rattle.std.specs.Prelude.{◌≡◌, ◌≤◌, ◌<◌, ◌^◌, true, [], None, length};
+ghost use Rattle.std.specs.Prelude.{◌≡◌, ℕ, ◌≤◌, ◌<◌, ◌^◌, ◌++◌, true, [], None, length, IfOk, OnErr};
 ghost use Rattle.std.specs.List.{AllByRecursion};
+ghost use Rattle.std.specs.Vec.{vec_capacity};
 ghost use Rattle.trex_core.specs.Plan.{frames_of_plan};
+ghost use Rattle.trex_core.specs.Texts.{records_text};
 ghost use Rattle.trex_crew.specs.Crews.{works_of};
+ghost use Rattle.trex_io.specs.Faults.{HasCause};
+ghost use Rattle.trex_io.specs.Texts.{WrotePart};
 ghost use Rattle.trex_merge.specs.Machine.{next_in};
 ghost use Rattle.trex_profile.specs.Admission.{refusal_of};
+ghost use Rattle.trex_run.specs.declared.pieces.TheConstants.{PIECE};
 ghost use Rattle.trex_run.specs.Capture.{tallies as tallies_of};
 ghost use Rattle.trex_run.specs.Ready.{first_works};
-ghost use Rattle.trex_run.specs.State.{IsCurrent, IsShort, IsStep, cores_of, packets_reached};
+ghost use Rattle.trex_run.specs.State.{IsCurrent, IsPassed, IsShort, IsStep, ahead, cores_of, packets_reached};
 ghost use Rattle.trex_run.specs.Step.{is_packet, reached};
 
-use crate::step::{send, steps_are_events, supply};
-use crate::tally::{count_next, head_of};
+use crate::pieces::gather;
+use crate::run::{least_elsewhere, run_of};
+use crate::step::{send, send_run, steps_are_events, supply};
+use crate::tally::{count_all, count_next, head_of};
 use std::marker::Model;
 use std::thread::Threads;
 use trex_core::{CoreWork, Plan, plans_rise};
 use trex_crew::{Crew, Gate};
+use trex_io::{Failed, Sink};
 use trex_merge::{Head, Mill, Next};
 use trex_report::Tally;
 
@@ -39,7 +47,7 @@ impl<'p> Model for Progress<'p> {
     ghost use Rattle.trex_crew.specs.Crews.{works_of};
     ghost use Rattle.trex_merge.specs.Frames.{sequence};
     ghost use Rattle.trex_run.specs.Capture.{tallies as tallies_of};
-    ghost use Rattle.trex_run.specs.Ready.{IsReady, queues_of};
+    ghost use Rattle.trex_run.specs.Ready.{HaveBase, IsReady, queues_of};
     ghost use Rattle.trex_run.specs.State.{IsEarly, RunState};
     ghost use Rattle.trex_run.specs.Step.{mill_after, packet_ahead};
 
@@ -54,7 +62,8 @@ impl<'p> Model for Progress<'p> {
     ghost invariant = { λ r. IsReady (frames_of_plan r.plan.now) (works_of r.crew) r.crew.rounds r.mill.limit r.mill.sent r.next
         × (r.tallies.items ≡ tallies_of r.plan.now.profile
         (take (r.mill.sent + packet_ahead r.next) (sequence r.mill.limit (frames_of_plan r.plan.now))))
-        × AllByRecursion IsEarly (frames_of_plan r.plan.now) };
+        × AllByRecursion IsEarly (frames_of_plan r.plan.now)
+        × HaveBase r.plan.now.base (works_of r.crew) };
 }
 
 impl<'p> Progress<'p> {
@@ -70,7 +79,7 @@ impl<'p> Progress<'p> {
         requires duration { plan.now.duration ≤ 10 ^ 18 }
         requires limit { limit ≤ 100000000 }
         requires some { 0 < length (works_of crew) }
-        requires works { works_of crew ≡ first_works (length (works_of crew)) (frames_of_plan plan.now) }
+        requires works { works_of crew ≡ first_works plan.now.base (length (works_of crew)) (frames_of_plan plan.now) }
         requires rounds { crew.rounds ≡ 0 }
         requires tallies { tallies.items ≡ tallies_of plan.now.profile [] }
         ensures plan { result.plan ≡ plan.now }
@@ -99,6 +108,44 @@ impl<'p> Progress<'p> {
         self.next = supply(rt, &self.mill, &mut self.crew, then, gates);
         count_next(self.crew.works(), self.next, &mut self.tallies);
         is_packet(self.next)
+    }
+
+    /// Gathers the run of packets that begins with the current one, sends it, and goes to the packet after it, as a step does. Whether there
+    /// is one.
+    pub(crate) fn pass<R: Threads + Sync, O: Sink, G: Gate>(
+        &mut self,
+        rt: &R,
+        piece: &mut Vec<u8>,
+        out: &mut O,
+        gates: &mut [G],
+    ) -> Result<bool, Failed>
+        requires packet { is_packet (next_in self.old.state) ≡ true }
+        requires capacity { PIECE ≤ vec_capacity piece.old }
+        ensures passes { IfOk result (λ found.
+            IsPassed G.entries O.held self.old self.new gates.old gates.new out.old out.new piece.old.items piece.new.items found) }
+        ensures part { OnErr result ((many : ℕ) × WrotePart O.held out.old out.new (piece.old.items ++ records_text self.old.plan.base (ahead many self.old))) }
+        ensures kept { OnErr result ((self.new ≡ self.old) × (gates.new ≡ gates.old)) }
+        ensures cause { HasCause O.faults out.old out.new result }
+        ensures capacity { PIECE ≤ vec_capacity piece.new }
+    {
+        let feed = match self.next {
+            Next::Packet { feed } => feed,
+            Next::Need { .. } => unreachable!(),
+            Next::End => unreachable!(),
+        };
+        let before = least_elsewhere(self.crew.works(), feed);
+        let run = run_of(self.crew.works(), feed, before, self.mill.left());
+        if let Err(failed) = gather(out, piece, run.text) {
+            return Err(failed);
+        }
+        // the current packet is counted
+        count_all(&mut self.tallies, &run.packets[1..]);
+        let packets = run.packets.len();
+        let bytes = run.text.len();
+        let then = send_run(&mut self.mill, &mut self.crew, feed, packets, bytes);
+        self.next = supply(rt, &self.mill, &mut self.crew, then, gates);
+        count_next(self.crew.works(), self.next, &mut self.tallies);
+        Ok(is_packet(self.next))
     }
 
     /// The packet that the last step went to.

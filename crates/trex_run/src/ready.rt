@@ -81,7 +81,7 @@ impl<'p> Ready<'p> {
 fn crew_of<'p>(alloc: Global, plan: &'p Plan<'p>, cores: u32) -> Result<Crew<CoreWork<'p>>, Memory>
     requires some { 1 ≤ cores }
     requires few { cores ≤ 64 }
-    ensures works { IfOk result (λ crew. works_of crew ≡ first_works cores (frames_of_plan plan.now)) }
+    ensures works { IfOk result (λ crew. works_of crew ≡ first_works plan.now.base cores (frames_of_plan plan.now)) }
     ensures rounds { IfOk result (λ crew. crew.rounds ≡ 0) }
 {
     let mut works = Vec::new(alloc);

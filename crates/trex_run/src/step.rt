@@ -1,19 +1,24 @@
 //! The two events of the merge over a crew: the packet that comes next is sent, and a round is made if a core has to be waited for.
 
-ghost use Rattle.std.specs.Prelude.{◌≡◌, ℕ, ◌+◌, ◌-◌, ◌<◌, ◌≤◌, ◌^◌, true, false, List, map, length};
+ghost use Rattle.std.specs.Prelude.{◌≡◌, ℕ, ◌+◌, ◌-◌, ◌<◌, ◌≤◌, ◌^◌, true, false, List, map, length, take};
 ghost use Rattle.std.specs.List.{AllByRecursion};
+ghost use Rattle.trex_core.specs.Texts.{records_text};
 ghost use Rattle.trex_crew.specs.Crews.{works_of};
 ghost use Rattle.trex_merge.specs.declared.next.Next.{Next as ANext};
 ghost use Rattle.trex_merge.specs.declared.next.Next.TheVariants.{Need as ANeed};
 ghost use Rattle.trex_merge.specs.Frames.{Frame, key_of};
 ghost use Rattle.trex_merge.specs.Machine.{Emit, IsMill, happens, run};
 ghost use Rattle.trex_merge.specs.Order.{ordered};
-ghost use Rattle.trex_merge.specs.Queues.{Queue, is_needy, next_of, refilled, stem};
+ghost use Rattle.trex_merge.specs.Queues.{Queue, at_place, is_needy, next_of, refilled, stem, waiting_at};
+ghost use Rattle.trex_merge.specs.Runs.{dropped};
+ghost use Rattle.trex_run.specs.Ready.{base_at, marks_of, queues_of};
 ghost use Rattle.trex_run.specs.Rounds.{EnteredAfter};
 ghost use Rattle.trex_run.specs.Step.{is_packet, mill_after, packet_ahead, queues_after, round_from, rounds_after, works_after};
 
+use crate::run::drop_run;
 use std::thread::Threads;
 use trex_claims::Piece;
+use trex_core::CoreWork;
 use trex_crew::{Crew, Gate};
 use trex_merge::{Feed, Mill, Next};
 
@@ -35,6 +40,30 @@ pub(crate) fn send<F: Feed + Piece>(mill: &mut Mill, crew: &mut Crew<F>, next: N
         Next::Need { .. } => next,
         Next::End => next,
     }
+}
+
+/// Sends the run at a core, of so many packets whose records have so many bytes, and tells what comes then.
+pub(crate) fn send_run(
+    mill: &mut Mill,
+    crew: &mut Crew<CoreWork<'_>>,
+    feed: usize,
+    packets: usize,
+    bytes: usize,
+) -> Next
+    requires within { feed < length (works_of crew.old) }
+    requires packets { packets ≤ length (waiting_at feed (queues_of (works_of crew.old))) }
+    requires bytes { bytes ≡ length (records_text (base_at feed (works_of crew.old)) (take packets (waiting_at feed (queues_of (works_of crew.old))))) }
+    requires limit { mill.old.sent + packets ≤ mill.old.limit }
+    ensures queues { queues_of (works_of crew.new) ≡ at_place (dropped packets) feed (queues_of (works_of crew.old)) }
+    ensures marks { marks_of (works_of crew.new) ≡ marks_of (works_of crew.old) }
+    ensures rounds { crew.new.rounds ≡ crew.old.rounds }
+    ensures sent { mill.new.sent ≡ mill.old.sent + packets }
+    ensures limit { mill.new.limit ≡ mill.old.limit }
+    ensures next { result ≡ next_of (mill.new.limit - mill.new.sent) (queues_of (works_of crew.new)) }
+{
+    drop_run(crew.works_mut(), feed, packets, bytes);
+    mill.pass(packets as u64);
+    mill.peek(crew.works())
 }
 
 /// Makes a round if a core has to be waited for, and tells what comes then.

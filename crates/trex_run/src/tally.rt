@@ -8,10 +8,10 @@ ghost use Rattle.trex_merge.specs.Queues.{IsLeastAt, waiting_at};
 ghost use Rattle.trex_run.specs.Capture.{tallies as tallies_of};
 ghost use Rattle.trex_run.specs.Ready.{CountsNext, queues_of};
 ghost use Rattle.trex_run.specs.State.{IsShort};
-ghost use Rattle.trex_run.specs.Tallies.{AtMostPackets, counted};
+ghost use Rattle.trex_run.specs.Tallies.{AtMostPackets, all_counted, counted};
 
 use std::alloc::Global;
-use trex_core::CoreWork;
+use trex_core::{CoreWork, Waiting};
 use trex_io::Memory;
 use trex_merge::{Feed, Head, Next};
 use trex_profile::Profile;
@@ -47,7 +47,7 @@ pub(crate) fn head_of<'w>(works: &'w [CoreWork<'_>], feed: usize) -> Head<'w>
 
 /// Counts one packet more, of so many bytes, for the stream at a position.
 fn count(tallies: &mut [Tally], position: u32, bytes: usize)
-    requires room { AtMostPackets 100000000 tallies.old }
+    requires room { AtMostPackets 200000000 tallies.old }
     requires small { bytes ≤ 9216 }
     ensures { tallies.new ≡ counted tallies.old position bytes }
 {
@@ -59,6 +59,18 @@ fn count(tallies: &mut [Tally], position: u32, bytes: usize)
             packets: tally.packets + 1,
             bytes: tally.bytes + bytes as u64,
         };
+    }
+}
+
+/// Counts some packets more.
+pub(crate) fn count_all(tallies: &mut [Tally], packets: &[Waiting])
+    requires room { AtMostPackets 100000000 tallies.old }
+    requires few { length packets.now ≤ 100000000 }
+    requires small { AllByRecursion (λ packet. packet.length ≤ 9216) packets.now }
+    ensures { tallies.new ≡ all_counted tallies.old packets.now }
+{
+    for packet in packets {
+        count(tallies, packet.key.stream, packet.length);
     }
 }
 

@@ -1,96 +1,119 @@
-use Rattle.std.proofs.Common.{◌≡◌, ℕ, ◌+◌, ◌*◌, ◌≤◌, ◌<◌, ◌^◌, List, ◌++◌, length, take, refl, sym, ap, ◌∙◌, subst, arith, rules}
-use Rattle.std.proofs.Math.Seq.{take-length}
+use Rattle.std.proofs.Common.{◌≡◌, ℕ, ◌+◌, ◌≤◌, List, [], ◌++◌, length, take, drop, sym, ap, ◌∙◌, subst, arith, take-append-drop, rules}
+use Rattle.std.proofs.Math.Seq.{take-add}
+use Rattle.std.proofs.lemmas.List.{nil_from_length}
+use Rattle.trex_core.specs.Plan.{PlanOf}
+use Rattle.trex_core.specs.Texts.{records_text}
 use Rattle.trex_io.specs.Texts.{WrotePart}
-use Rattle.trex_pcap.specs.Writing.{record_of}
-use Rattle.trex_merge.specs.Frames.{Frame, frame_of}
-use Rattle.trex_run.specs.Capture.{capture_text, packet_at}
+use Rattle.trex_merge.specs.Frames.{Frame}
+use Rattle.trex_run.specs.Capture.{capture_text}
 use Rattle.trex_run.specs.Pieces.{WrittenAndPending}
-use Rattle.trex_run.specs.State.{all_of}
-use Rattle.trex_run.specs.Step.{reached}
-use Rattle.trex_run.proofs.CaptureLemmas.{WrittenAndPending-more, WrittenAndPending-part, capture_of-more, capture_of-front}
-use Rattle.trex_run.proofs.ListLemmas.{take-next}
-use Rattle.trex_run.proofs.StateLemmas.{more_steps, no_steps, through_after, went_to}
+use Rattle.trex_run.specs.State.{ahead, all_of}
+use Rattle.trex_run.proofs.CaptureLemmas.{WrittenAndPending-behind, WrittenAndPending-more, capture_text-append}
+use Rattle.trex_run.proofs.StateLemmas.{more_steps, same_all, through_after}
 use Rattle.trex_run.proofs.capture_writer.gather_all.Goals as goal
 
-pub overflow_add-base : goal.overflow_add-base
-overflow_add-base g c =
-    let early : c.current-head.result.time < 10 ^ 18 = c.current-head.ensures.early in
-    let base = c.from-base.ensures in
-    omega (arith, base, early, c.requires.base)
+pub runs-init : goal.runs-init
+runs-init g c =
+    let step = c.step-found.ensures in
+    let none : length c.step-found.new.self.state.sent ≡ 0 = step.sent ∙ c.requires.none in
+    let nothing : c.step-found.new.self.state.sent ≡ [] = nil_from_length c.step-found.new.self.state.sent none in
+    let all = all_of c.args.progress.now in
+    let base = c.args.progress.now.plan.base in
+    record {
+      steps = step.steps;
+      gathered = subst (λ (l : List Frame). WrittenAndPending g.O.Sink.held c.args.out.now c.args.out.now c.args.piece.now.items (capture_text base l)) (sym nothing)
+          (search rules);
+      front = nothing ∙ ap (λ n. take n all) (sym none);
+      within = omega (arith, none);
+      more = step.more;
+      whole = step.whole;
+      through = step.through;
+      as_many = search rules;
+      capacity = c.requires.capacity;
+      faults = omega arith;
+    }
 
-pub gather-requires-clause-time : goal.gather-requires-clause-time
-gather-requires-clause-time g c =
-    let early : c.current-head.result.time < 10 ^ 18 = c.current-head.ensures.early in
-    let base = c.from-base.ensures in
-    omega (arith, base, early, c.requires.base)
+pub pass-requires-clause-packet : goal.pass-requires-clause-packet
+pass-requires-clause-packet g c = λ lifetimes order. sym c.runs.invariant.more ∙ c.runs-test.true
 
-pub gather-requires-clause-small : goal.gather-requires-clause-small
-gather-requires-clause-small g c = let short : length c.current-head.result.bytes.now ≤ 9216 = c.current-head.ensures.short in omega (arith, short)
+pub pass-requires-clause-capacity : goal.pass-requires-clause-capacity
+pass-requires-clause-capacity g c = λ lifetimes order. c.runs.invariant.capacity
+
+pub runs-preserved : goal.runs-preserved
+runs-preserved g c =
+    let entries = g.G.Gate.entries in
+    let held = g.O.Sink.held in
+    let inv = c.runs.invariant in
+    let passes = c.in-Ok.ensures.passes in
+    let pass = passes.pass in
+    let many = passes.many in
+    let old = c.args.progress.now in
+    let here = c.runs.progress in
+    let new = c.pass.new.self in
+    let all = all_of old in
+    let base = old.plan.base in
+    let k = length here.state.sent in
+    let same = same_all entries old here c.args.gates.now c.runs.gates inv.steps in
+    let more = WrittenAndPending-more held c.args.out.now c.runs.out c.pass.new.out c.runs.piece.items (capture_text base here.state.sent)
+    (records_text here.plan.base (ahead many here)) c.pass.new.piece.items inv.gathered passes.gathers in
+    let goes : capture_text base here.state.sent ++ records_text here.plan.base (ahead many here) ≡ capture_text base new.state.sent =
+    ap (λ (p : PlanOf). capture_text base here.state.sent ++ records_text p.base (ahead many here)) inv.steps.plan
+    ∙ sym (capture_text-append base here.state.sent (ahead many here)) ∙ ap (capture_text base) (sym pass.sent) in
+    record {
+      steps = more_steps entries old here new c.args.gates.now c.runs.gates c.pass.new.gates inv.as_many inv.steps pass.steps;
+      gathered = subst (λ (t : List ℕ). WrittenAndPending held c.args.out.now c.pass.new.out c.pass.new.piece.items t) goes more;
+      front = pass.sent ∙ ap (λ (l : List Frame). l ++ ahead many here) inv.front ∙ ap (λ (l : List Frame). take k all ++ take many (drop k l)) same
+          ∙ sym (take-add k many all) ∙ ap (λ n. take n all) (sym pass.longer);
+      within = subst (λ n. length new.state.sent ≤ n) (ap length same) pass.within;
+      more = pass.more;
+      whole = λ none. pass.whole none ∙ same;
+      through = λ none. through_after entries old here new c.args.gates.now c.runs.gates inv.steps (pass.through none);
+      as_many = c.pass.auto.gates ∙ inv.as_many;
+      capacity = c.in-Ok.ensures.capacity;
+      faults = let a = inv.faults in let b = c.in-Ok.ensures.cause.later in omega arith;
+    }
+
+pub runs-smaller : goal.runs-smaller
+runs-smaller g c =
+    let inv = c.runs.invariant in
+    let pass = c.in-Ok.ensures.passes.pass in
+    let same = ap length (same_all g.G.Gate.entries c.args.progress.now c.runs.progress c.args.gates.now c.runs.gates inv.steps) in
+    let some = pass.some in
+    let longer = pass.longer in
+    let within = pass.within in
+    omega (arith, same, some, longer, within)
 
 pub returns-in-Err-clause-part : goal.returns-in-Err-clause-part
 returns-in-Err-clause-part g c =
-    let all = all_of c.args.progress.now in
-    let k = reached c.packets.progress.state in
-    let within = c.packets.invariant.within in
-    let front = capture_of-front (packet_at c.args.base) k (length all) all within in
-    let whole : capture_text c.args.base all ≡ capture_text c.args.base (take k all) ++ front.0 =
-    ap (capture_text c.args.base) (sym (take-length all)) ∙ front.1 in
-    subst (WrotePart g.O.Sink.held c.args.out.now c.gather.new.out) (sym whole)
-    (WrittenAndPending-part g.O.Sink.held c.args.out.now c.packets.out c.gather.new.out c.packets.piece.items _ front.0 c.packets.invariant.gathered c.in-Err.ensures.part)
-
-pub packets-smaller : goal.packets-smaller
-packets-smaller g c =
-    let went = went_to g.G.Gate.entries c.args.progress.now c.packets.progress c.step.new.self c.args.gates.now c.packets.gates c.step.new.gates
-    c.step.result c.current-head.result c.packets.invariant.steps c.step.ensures c.packets-test.true c.current-head.ensures in
-    let one = went.one in
-    let within = went.within in
-    omega (arith, one, within)
-
-pub packets-preserved : goal.packets-preserved
-packets-preserved g c =
-    let all = all_of c.args.progress.now in
-    let k = reached c.packets.progress.state in
-    let frame : Frame = frame_of c.current-head.result in
-    let f = packet_at c.args.base in
-    let went = went_to g.G.Gate.entries c.args.progress.now c.packets.progress c.step.new.self c.args.gates.now c.packets.gates c.step.new.gates
-    c.step.result c.current-head.result c.packets.invariant.steps c.step.ensures c.packets-test.true c.current-head.ensures in
-    let gathered = WrittenAndPending-more g.O.Sink.held c.args.out.now c.packets.out c.gather.new.out c.packets.piece.items _ _ c.gather.new.piece.items
-    c.packets.invariant.gathered c.in_default.ensures.gathers in
-    let text = capture_text c.args.base (take k all) in
-    let record_same : record_of (record { time = c.from-base.result * 10 ^ 9 + c.current-head.result.time; bytes = c.current-head.result.bytes.now }) ≡ record_of (f frame) =
-    rw c.from-base.ensures refl in
-    let goes : text ++ record_of (f frame) ≡ capture_text c.args.base (take (reached c.step.new.self.state) all) =
-    sym (capture_of-more f (take k all) frame) ∙ ap (capture_text c.args.base) (sym (take-next k all frame went.found))
-    ∙ ap (λ n. capture_text c.args.base (take n all)) (sym went.one) in
-    record {
-      steps = more_steps g.G.Gate.entries c.args.progress.now c.packets.progress c.step.new.self c.args.gates.now c.packets.gates c.step.new.gates
-          c.packets.auto.gates c.packets.invariant.steps c.step.ensures.steps;
-      gathered = subst (λ (t : List ℕ). WrittenAndPending g.O.Sink.held c.args.out.now c.gather.new.out c.gather.new.piece.items t) (ap (λ r. text ++ r) record_same ∙ goes) gathered;
-      within = went.within;
-      capacity = c.gather.ensures.capacity;
-      faults = let a = c.packets.invariant.faults in let b = c.in_default.ensures.cause.later in omega arith;
-    }
-
-pub packets-init : goal.packets-init
-packets-init g c = record {
-  steps = no_steps g.G.Gate.entries c.args.progress.now c.args.gates.now;
-  gathered = search rules;
-  within = search rules;
-  capacity = c.requires.capacity;
-  faults = omega arith;
-}
+    let held = g.O.Sink.held in
+    let inv = c.runs.invariant in
+    let old = c.args.progress.now in
+    let here = c.runs.progress in
+    let all = all_of old in
+    let base = old.plan.base in
+    let k = length here.state.sent in
+    let part = c.in-Err.ensures.part in
+    let many = part.0 in
+    let same = same_all g.G.Gate.entries old here c.args.gates.now c.runs.gates inv.steps in
+    let rest = records_text base (drop (k + many) all) in
+    let behind = WrittenAndPending-behind held c.args.out.now c.runs.out c.pass.new.out c.runs.piece.items (capture_text base here.state.sent)
+    (records_text here.plan.base (ahead many here)) rest inv.gathered part.1 in
+    let front : here.state.sent ++ ahead many here ≡ take (k + many) all =
+    ap (λ (l : List Frame). l ++ ahead many here) inv.front ∙ ap (λ (l : List Frame). take k all ++ take many (drop k l)) same ∙ sym (take-add k many all) in
+    let whole : (capture_text base here.state.sent ++ records_text here.plan.base (ahead many here)) ++ rest ≡ capture_text base all =
+    ap (λ (p : PlanOf). (capture_text base here.state.sent ++ records_text p.base (ahead many here)) ++ rest) inv.steps.plan
+    ∙ ap (λ (l : List ℕ). l ++ rest) (sym (capture_text-append base here.state.sent (ahead many here)) ∙ ap (capture_text base) front)
+    ∙ sym (capture_text-append base (take (k + many) all) (drop (k + many) all))
+    ∙ ap (capture_text base) (take-append-drop (k + many) all) in
+    subst (WrotePart held c.args.out.now c.pass.new.out) whole behind
 
 pub returns-in-Err-clause-steps : goal.returns-in-Err-clause-steps
-returns-in-Err-clause-steps g c =
-    more_steps g.G.Gate.entries c.args.progress.now c.packets.progress c.step.new.self c.args.gates.now c.packets.gates c.step.new.gates
-    c.packets.auto.gates c.packets.invariant.steps c.step.ensures.steps
+returns-in-Err-clause-steps g c = rw (c.in-Err.ensures.kept.0, c.in-Err.ensures.kept.1) c.runs.invariant.steps
 
-pub returns-clause-steps : goal.returns-clause-steps
-returns-clause-steps g c =
-    more_steps g.G.Gate.entries c.args.progress.now c.packets.progress c.step.new.self c.args.gates.now c.packets.gates c.step.new.gates
-    c.packets.auto.gates c.packets.invariant.steps c.step.ensures.steps
+pub returns-clause-gathers : goal.returns-clause-gathers
+returns-clause-gathers g c =
+    subst (λ (l : List Frame). WrittenAndPending g.O.Sink.held c.args.out.now c.runs.out c.runs.piece.items (capture_text c.args.progress.now.plan.base l))
+    (c.runs.invariant.whole c.runs-test.false) c.runs.invariant.gathered
 
 pub returns-clause-through : goal.returns-clause-through
-returns-clause-through g c =
-    through_after g.G.Gate.entries c.args.progress.now c.packets.progress c.step.new.self c.args.gates.now c.packets.gates
-    c.packets.invariant.steps (c.step.ensures.through c.packets-test.false)
+returns-clause-through g c = c.runs.invariant.through c.runs-test.false

@@ -13,7 +13,8 @@ use Rattle.trex_sched.specs.Numbers.{AreNumbered, of_stream}
 use Rattle.trex_sched.proofs.RunLemmas.{all_get}
 use Rattle.trex_stats.specs.Counts.{arrivals}
 use Rattle.trex_stats.specs.Laws.{clean_line}
-use Rattle.trex_run.specs.Capture.{packet_at, sequence}
+use Rattle.trex_core.specs.Texts.{packet_at}
+use Rattle.trex_run.specs.Capture.{sequence}
 use Rattle.trex_run.proofs.CleanLemmas.{all_fit, as_sent, early_take, numbered_take, record_of, records_of}
 use Rattle.trex_run.proofs.laws.runs_measure_clean.Goals as goal
 

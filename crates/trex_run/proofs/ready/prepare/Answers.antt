@@ -18,8 +18,8 @@ pub start-progress-requires-clause-works : goal.start-progress-requires-clause-w
 start-progress-requires-clause-works c =
     let frames = frames_of_plan c.args.plan.now in
     let works = c.in_ok-crew.ensures.works in
-    let count = ap length works ∙ works_count c.args.ask.now.cores frames in
-    works ∙ ap (λ n. first_works n frames) (sym count)
+    let count = ap length works ∙ works_count c.args.plan.now.base c.args.ask.now.cores frames in
+    works ∙ ap (λ n. first_works c.args.plan.now.base n frames) (sym count)
 
 pub returns-clause-all : goal.returns-clause-all
 returns-clause-all c =
@@ -37,4 +37,4 @@ returns-clause-all c =
 
 pub returns-clause-cores : goal.returns-clause-cores
 returns-clause-cores c =
-    c.start-progress.ensures.cores ∙ ap length c.in_ok-crew.ensures.works ∙ works_count c.args.ask.now.cores (frames_of_plan c.args.plan.now)
+    c.start-progress.ensures.cores ∙ ap length c.in_ok-crew.ensures.works ∙ works_count c.args.plan.now.base c.args.ask.now.cores (frames_of_plan c.args.plan.now)

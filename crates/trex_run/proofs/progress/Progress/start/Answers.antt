@@ -6,6 +6,7 @@ use Rattle.trex_merge.specs.Queues.{next_of}
 use Rattle.trex_run.specs.Capture.{tallies}
 use Rattle.trex_run.specs.Step.{packet_ahead}
 use Rattle.trex_run.specs.Ready.{queues_of}
+use Rattle.trex_run.proofs.BaseLemmas.{first_bases}
 use Rattle.trex_run.proofs.ReadyLemmas.{begins, reached_is}
 use Rattle.trex_run.proofs.StateLemmas.{early_by}
 use Rattle.trex_run.proofs.progress.Progress.start.Goals as goal
@@ -18,12 +19,13 @@ invariant_of-result c =
     let none = c.new-mill.ensures.sent in
     let next : c.peek-next.result ≡ next_of (mill.limit - 0) (queues_of works) = rw (none, c.works.ensures) at c.peek-next.ensures in
     let few : mill.limit ≤ 100000000 = omega (arith, c.new-mill.ensures.limit, c.requires.limit) in
-    let begun = begins frames works (length works) mill.limit c.peek-next.result (c.plans_rise.ensures.distinct c.args.plan.now c.requires.kept)
+    let begun = begins c.args.plan.now.base frames works (length works) mill.limit c.peek-next.result (c.plans_rise.ensures.distinct c.args.plan.now c.requires.kept)
     c.requires.short c.requires.some few c.requires.works next in
     let zero_gone : 0 ≡ mill.sent + packet_ahead c.peek-next.result = omega (arith, none, begun.none) in (
       rw (c.requires.rounds, none) begun.ready,
       c.requires.tallies ∙ ap (λ n. tallies c.args.plan.now.profile (take n (sequence mill.limit frames))) zero_gone,
       early_by c.args.plan.now.duration frames c.requires.duration (c.plans_rise.ensures.below c.args.plan.now),
+      rw c.requires.works (first_bases c.args.plan.now.base (length works) frames 0 (length works)),
     )
 
 pub returns-clause-none : goal.returns-clause-none
@@ -34,7 +36,7 @@ returns-clause-none c =
     let none = c.new-mill.ensures.sent in
     let next : c.peek-next.result ≡ next_of (mill.limit - 0) (queues_of works) = rw (none, c.works.ensures) at c.peek-next.ensures in
     let few : mill.limit ≤ 100000000 = omega (arith, c.new-mill.ensures.limit, c.requires.limit) in
-    let begun = begins frames works (length works) mill.limit c.peek-next.result (c.plans_rise.ensures.distinct c.args.plan.now c.requires.kept)
+    let begun = begins c.args.plan.now.base frames works (length works) mill.limit c.peek-next.result (c.plans_rise.ensures.distinct c.args.plan.now c.requires.kept)
     c.requires.short c.requires.some few c.requires.works next in
     let zero_gone : 0 + packet_ahead c.peek-next.result ≡ 0 = omega (arith, begun.none) in
     rw none (reached_is frames works 0 mill.limit 0 c.peek-next.result begun.ready ∙ zero_gone)

@@ -12,6 +12,7 @@ use Rattle.trex_run.specs.Ready.{CountsNext, queues_of}
 use Rattle.trex_run.specs.Rounds.{EnteredAfter}
 use Rattle.trex_run.specs.State.{IsStep, RunState}
 use Rattle.trex_run.specs.Step.{mill_after, packet_ahead, rounds_after}
+use Rattle.trex_run.proofs.BaseLemmas.{bases_after}
 use Rattle.trex_run.proofs.HeadLemmas.{all_waiting_short, counted_next}
 use Rattle.trex_run.proofs.ReadyLemmas.{after_emit, gone_to, sent_within, state_of, step_is}
 use Rattle.trex_run.proofs.TallyLemmas.{AtMostPackets-front}
@@ -82,7 +83,12 @@ invariant_of-self g c =
     let rest = drop (length new) i.tallies.items in
     let long : i.tallies.len ≡ length new = omega (arith, c.deref_mut.ensures.len) in
     let back : take i.tallies.len (new ++ rest) ≡ new = ap (λ n. take n (new ++ rest)) long ∙ take-append_seam new rest in
-    rw send.limit (gone.ready, back ∙ is, c.self.invariant.2)
+    rw send.limit (
+      gone.ready,
+      back ∙ is,
+      c.self.invariant.2,
+      bases_after i.plan.now.base c.send-then.result (works_of i.crew) (works_of c.send-then.new.crew) (works_of c.supply-self-inside.new.crew) send.marks supply.works c.self.invariant.3,
+    )
 
 pub returns : goal.returns
 returns g c =
