@@ -1,5 +1,6 @@
 //! Whole runs that no line of data can hold: calls that fail, gates that tell or wait, texts that are made, and the packets of a sample.
 
+mod cores;
 mod failing;
 mod gates;
 mod long;
@@ -26,6 +27,26 @@ const CAPTURE: &[u8; 114] = b"\x4d\x3c\xb2\xa1\x02\0\x04\0\0\0\0\0\0\0\0\0\0\0\x
 
 /// Its report: three packets of 14 bytes are 42 bytes.
 const REPORT: &[u8; 53] = b"stream 1 packets 3 bytes 42\ntotal packets 3 bytes 42\n";
+
+/// A text of a beginning, a piece so many times over, and an end.
+#[derive(Clone, Copy)]
+struct Made<'a> {
+    begin: &'a str,
+    piece: &'a str,
+    count: usize,
+    end: &'a str,
+}
+
+impl Made<'_> {
+    fn text(&self, alloc: Global) -> Result<String, Fail> {
+        let mut text = String::from_str(alloc, self.begin)?;
+        for _ in 0..self.count {
+            text.push_str(self.piece)?;
+        }
+        text.push_str(self.end)?;
+        Ok(text)
+    }
+}
 
 /// Runs a line with two open gates.
 fn run_open<R: Threads + Sync>(

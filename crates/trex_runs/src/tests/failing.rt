@@ -207,3 +207,19 @@ fn a_full_output_keeps_what_it_has_room_for(rt: HostRuntime) -> Result<(), Fail>
     );
     Ok(())
 }
+
+/// How many bytes a call of the input gives: less than a record's header, a header, more, and all.
+const PER_CALL: [usize; 5] = [1, 15, 16, 17, 65_536];
+
+#[test]
+fn a_capture_is_analyzed_however_it_comes(rt: HostRuntime) -> Result<(), Fail> {
+    for &per_call in &PER_CALL {
+        let ends = Ends {
+            per_call,
+            ..Ends::WIDE
+        };
+        let ran = run_open(&rt, rt.alloc(), "analyze", FIVE, &ends)?;
+        assert_left(&rt, &ran, Status::Done, FIVE_LINES, b"");
+    }
+    Ok(())
+}

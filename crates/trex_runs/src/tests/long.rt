@@ -1,34 +1,13 @@
-//! Texts and packets of the greatest sizes, made of a piece that is repeated.
+//! Texts and packets of the greatest sizes.
 
-use super::{CAPTURE, assert_left, run_open};
+use super::{CAPTURE, Made, assert_left, run_open};
 use crate::memory::{Ends, run};
-use std::alloc::Global;
 use std::test::Fail;
 use trex_crew::ListGate;
 use trex_top::Status;
 
 /// How many bytes a profile's text may have.
 const LONGEST: usize = 33_554_432;
-
-/// A text of a beginning, a piece so many times over, and an end.
-#[derive(Clone, Copy)]
-struct Made<'a> {
-    begin: &'a str,
-    piece: &'a str,
-    count: usize,
-    end: &'a str,
-}
-
-impl Made<'_> {
-    fn text(&self, alloc: Global) -> Result<String, Fail> {
-        let mut text = String::from_str(alloc, self.begin)?;
-        for _ in 0..self.count {
-            text.push_str(self.piece)?;
-        }
-        text.push_str(self.end)?;
-        Ok(text)
-    }
-}
 
 const LIST_BEGIN: &str =
     r#"[{"stream_id":1,"stream":{"packet":{"binary":"AgAAAAACAgAAAAABiLU="},"mode":{"type":"continuous","rate":{"type":"pps","value":3}},"vm":{"instructions":[{"type":"flow_var","name":"v","size":1,"op":"inc","value_list":[1"#;
