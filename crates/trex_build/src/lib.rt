@@ -4,8 +4,6 @@
 mod building;
 mod laws;
 mod layer;
-#[cfg(test)]
-mod tests;
 
 pub use building::build;
 pub use laws::built_headers_verify;

@@ -11,6 +11,3 @@ mod shift;
 pub use decimal::{DecimalFault, scaled};
 pub use number::{signed, whole};
 pub use quote::quote_numbers;
-
-#[cfg(test)]
-mod tests;

@@ -4,8 +4,6 @@
 mod numbers;
 mod places;
 mod table;
-#[cfg(test)]
-mod tests;
 
 pub use numbers::{read_be, read_le, write_be, write_le};
 pub use places::{Place, place_of};

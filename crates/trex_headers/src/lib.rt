@@ -10,8 +10,6 @@ mod lending;
 mod network;
 mod order;
 mod pseudo;
-#[cfg(test)]
-mod tests;
 
 pub use building::{BuildFault, build, build_owned};
 pub use constants::{IPV6_LEN, IPV6_SOURCE_AT, TYPE_IPV6};

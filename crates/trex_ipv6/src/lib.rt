@@ -7,8 +7,6 @@ mod laws;
 mod layer;
 mod places;
 mod table;
-#[cfg(test)]
-mod tests;
 
 pub use address::address6_of;
 pub use building::build6;

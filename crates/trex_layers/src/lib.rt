@@ -5,8 +5,6 @@ mod constants;
 mod parsing;
 mod places;
 mod sizes;
-#[cfg(test)]
-mod tests;
 
 pub use constants::{
     ETHERNET_LEN, IPV4_LEN, IPV4_PROTOCOL_AT, IPV4_SOURCE_AT, PROTOCOL_TCP, PROTOCOL_UDP, TAG_LEN,

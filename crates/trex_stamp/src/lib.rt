@@ -4,8 +4,6 @@
 mod header;
 mod laws;
 mod spelling;
-#[cfg(test)]
-mod tests;
 
 pub use header::{Stamp, Version};
 pub use laws::stamps_are_found;

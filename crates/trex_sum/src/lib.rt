@@ -3,8 +3,6 @@
 
 mod running;
 mod sums;
-#[cfg(test)]
-mod tests;
 mod wide;
 
 pub use running::RunningSum;

@@ -9,8 +9,6 @@ mod laws;
 mod shown;
 mod spec;
 mod strided;
-#[cfg(test)]
-mod tests;
 mod value;
 mod wheel;
 mod words;

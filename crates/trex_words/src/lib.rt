@@ -10,6 +10,3 @@ mod read;
 pub use asked::{Asked, OptionName, RunAsk, SampleAsk, Usage, WireAsk};
 pub use help::help_text;
 pub use read::read_words;
-
-#[cfg(test)]
-mod tests;

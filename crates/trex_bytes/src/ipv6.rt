@@ -1,12 +1,12 @@
 // Packets over IPv6 byte by byte, places of fields, and texts of addresses. Expected bytes of addresses are those of Python's ipaddress;
 // checksums come from a second program, which adds by end-around carry.
 
-use crate::{
+use std::alloc::Global;
+use std::test::Fail;
+use trex_ipv6::{
     Build6Fault, Layer6, Place6, address6_of, build6, built6_headers_verify, ipv6_at, place6_of,
     written_addresses_are_read,
 };
-use std::alloc::Global;
-use std::test::Fail;
 
 const TO: [u8; 6] = [2, 0, 0, 0, 0, 2];
 

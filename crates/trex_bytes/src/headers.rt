@@ -1,9 +1,9 @@
 // Which orders of layers are accepted. Lengths are sums of those of the headers (RFC 791, section 3.1; RFC 8200, section 3; RFC 793,
 // section 3.1; RFC 768).
 
-use crate::{BuildFault, LayerView, Version, build, headers_verify};
 use std::alloc::{AllocError, Global};
 use std::test::Fail;
+use trex_headers::{BuildFault, LayerView, Version, build, headers_verify};
 
 /// A layer of each kind by its letter: E, V, 4 and 6 for the headers of IP, T, U, and R for the payload.
 fn layer_of<'a>(

@@ -1,9 +1,12 @@
 // Which calls of a source or sink in memory fail, whole texts over them, and what std's readers and writers are asked for.
 
-use super::*;
 use std::alloc::{AllocError, Global};
 use std::io::{self, ErrorKind, Write};
 use std::test::Fail;
+use trex_io::{
+    Failed, MemSink, MemSource, ReadAll, Sink, Source, StdSink, StdSource, read_all, write_all,
+    write_pieces,
+};
 
 /// A writer of std that takes at most three bytes a call, and counts its flushes. Where `fails` is set, a flush fails.
 #[derive(Drop)]

@@ -1,6 +1,6 @@
 // A packet that is cut at each header (RFC 791, section 3.1; RFC 793, section 3.1; RFC 768; IEEE 802.1Q, section 9.6).
 
-use crate::{Ipv4Place, L4Place, Layers, ipv4_at, parse};
+use trex_layers::{Ipv4Place, L4Place, Layers, ipv4_at, parse};
 
 /// The IPv4 header behind two tags.
 const IP: Ipv4Place = Ipv4Place {

@@ -1,6 +1,6 @@
 // The place of each field, from the offsets of the standards (IEEE 802.3; IEEE 802.1Q; RFC 791; RFC 793; RFC 768), and numbers in either order.
 
-use crate::{Place, place_of, read_be, read_le, write_be, write_le};
+use trex_fields::{Place, place_of, read_be, read_le, write_be, write_le};
 use trex_layers::{Ipv4Place, L4Place, Layers};
 
 /// The fields of a packet of Ethernet, two tags, an IPv4 header of 24 bytes and TCP, with their places and sizes.

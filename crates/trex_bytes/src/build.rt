@@ -1,8 +1,8 @@
 // Packets over IPv4, byte by byte. Expected bytes come from a second program, which adds by end-around carry.
 
-use crate::{BuildFault, LayerSpec, build, built_headers_verify};
 use std::alloc::Global;
 use std::test::Fail;
+use trex_build::{BuildFault, LayerSpec, build, built_headers_verify};
 
 /// An Ethernet header.
 fn ethernet() -> LayerSpec {

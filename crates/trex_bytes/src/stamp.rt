@@ -1,6 +1,6 @@
 // Latency headers as bytes. The rows follow from the formats, by hand.
 
-use crate::{Stamp, Version, find_stamp, write_stamp};
+use trex_stamp::{Stamp, Version, find_stamp, write_stamp};
 
 /// Packets, and the version, the flow, the sequence and the time of the headers that they end in.
 const STAMPED: [(&[u8], Version, u32, u64, u64); 9] = [

@@ -4,10 +4,10 @@ ghost use Rattle.std.specs.Prelude.{◌≡◌, ◌^◌, ◌<◌, ◌≤◌, None
 ghost use Rattle.trex_vars.specs.Check.{fault_of};
 ghost use Rattle.trex_vars.specs.Variable.{variable_of};
 
-use crate::{Op, Strided, VarFault, VarSpec, VarValue, check};
 use std::alloc::{AllocError, Global};
 use std::process::Abort;
 use std::test::Fail;
+use trex_vars::{Op, Strided, VarFault, VarSpec, VarValue, check};
 
 macro_rules! numbers {
     ($($number:expr),*) => {

@@ -2,8 +2,8 @@
 
 ghost use Rattle.std.specs.Prelude.{◌≤◌};
 
-use super::*;
 use std::test::Fail;
+use trex_decimal::{DecimalFault, quote_numbers, scaled, signed, whole};
 
 /// What `scaled` answers, in a form that can be compared: the value, or where the text stops being a decimal, or neither.
 #[derive(Clone, Copy, Debug, PartialEq)]

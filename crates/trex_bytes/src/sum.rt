@@ -1,6 +1,6 @@
 // Sums of known bytes, at once and in pieces, and the checksum that is written as all ones.
 
-use crate::{RunningSum, fold, fold_sum, ones_for_zero, sum_words, verifies};
+use trex_sum::{RunningSum, fold, fold_sum, ones_for_zero, sum_words, verifies};
 
 /// Bytes, their sum and its fold: the numerical example of RFC 1071, section 3, whose sum is 2ddf0 and whose checksum is 220d, and other
 /// lengths beside it, so that each part of a tail is there with and without the others.
