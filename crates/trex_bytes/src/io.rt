@@ -44,6 +44,21 @@ fn letters(alloc: Global, failing: &[u64]) -> Result<MemSource, AllocError> {
     Ok(MemSource::new(b"abcde".to_vec(alloc)?, 2, numbers(alloc, failing)?))
 }
 
+/// What that source gives as a whole text of at most so many bytes.
+fn letters_read(
+    alloc: Global,
+    failing: &[u64],
+    limit: usize,
+) -> Result<Result<Vec<u8>, ReadAll>, AllocError> {
+    let mut source = letters(alloc, failing)?;
+    Ok(read_all(alloc, &mut source, limit))
+}
+
+/// A sink of six bytes, at most two a call, that fails at the calls of the list.
+fn six(alloc: Global, failing: &[u64]) -> Result<MemSink, Fail> {
+    Ok(MemSink::new(alloc, 6, 2, numbers(alloc, failing)?)?)
+}
+
 /// What reads of that source answer where the second one fails, and the first two bytes that they were given then.
 const READS: [(Result<usize, Failed>, &[u8; 2]); 5] = [
     (Ok(2), b"ab"),
@@ -82,22 +97,27 @@ fn a_sink_in_memory_fails_at_its_call_and_when_it_is_full(rt: HostRuntime) -> Re
 fn a_source_is_read_to_its_end_or_to_its_fault_or_past_the_limit(
     rt: HostRuntime,
 ) -> Result<(), Fail> {
-    let all = read_all(rt.alloc(), &mut letters(rt.alloc(), &[])?, 5)?;
+    let all = letters_read(rt.alloc(), &[], 5)??;
     assert_eq!(rt; all.as_slice(), b"abcde".as_slice());
-    let long = read_all(rt.alloc(), &mut letters(rt.alloc(), &[])?, 4);
+    let long = letters_read(rt.alloc(), &[], 4)?;
     assert!(rt; matches!(long, Err(ReadAll::TooLong { limit: 4 })));
-    let failed = read_all(rt.alloc(), &mut letters(rt.alloc(), &[3])?, 5);
+    let failed = letters_read(rt.alloc(), &[3], 5)?;
     assert!(rt; matches!(failed, Err(ReadAll::Fault)));
     Ok(())
 }
 
 #[test]
-fn pieces_are_written_whole_or_up_to_the_failing_call(rt: HostRuntime) -> Result<(), Fail> {
+fn pieces_are_written_whole(rt: HostRuntime) -> Result<(), Fail> {
     let pieces: [&[u8]; 3] = [b"abc", b"", b"def"];
-    let mut whole = MemSink::new(rt.alloc(), 6, 2, numbers(rt.alloc(), &[])?)?;
+    let mut whole = six(rt.alloc(), &[])?;
     assert_eq!(rt; write_pieces(&mut whole, &pieces), Ok(()));
     assert_eq!(rt; whole.bytes(), b"abcdef".as_slice());
-    let mut part = MemSink::new(rt.alloc(), 6, 2, numbers(rt.alloc(), &[2])?)?;
+    Ok(())
+}
+
+#[test]
+fn a_text_is_written_up_to_the_failing_call(rt: HostRuntime) -> Result<(), Fail> {
+    let mut part = six(rt.alloc(), &[2])?;
     assert_eq!(rt; write_all(&mut part, b"abcdef"), Err(Failed));
     assert_eq!(rt; part.bytes(), b"ab".as_slice());
     Ok(())

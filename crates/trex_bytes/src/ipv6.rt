@@ -159,6 +159,9 @@ const NAMES: [(&str, usize, usize); 11] = [
     ("IPv6.dst.15", 39, 1),
 ];
 
+/// Texts that name no field of IPv6.
+const NO_NAMES: [&str; 4] = ["IPv6.SRC", "IPv6.src.16", "IP.src", ""];
+
 #[test]
 fn fields_lie_behind_two_tags_at_most(rt: HostRuntime) {
     for tags in 0..4 {
@@ -185,7 +188,7 @@ fn fields_lie_behind_two_tags_at_most(rt: HostRuntime) {
             );
             assert_eq!(rt; place6_of(&packet[..header + 39], name), None);
         }
-        for name in ["IPv6.SRC", "IPv6.src.16", "IP.src", ""] {
+        for &name in &NO_NAMES {
             assert_eq!(rt; place6_of(&packet, name), None);
         }
         packet[header] = 0x4f;

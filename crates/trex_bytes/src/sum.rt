@@ -1,5 +1,8 @@
 // Sums of known bytes, at once and in pieces, and the checksum that is written as all ones.
 
+ghost use Rattle.std.specs.Prelude.{◌≤◌, length};
+
+use std::process::Abort;
 use trex_sum::{RunningSum, fold, fold_sum, ones_for_zero, sum_words, verifies};
 
 /// Bytes, their sum and its fold: the numerical example of RFC 1071, section 3, whose sum is 2ddf0 and whose checksum is 220d, and other
@@ -37,15 +40,21 @@ const PIECES: [&[u8]; 5] = [
 /// Checksums as they come out and as they are written.
 const WRITTEN: [(u16, u16); 4] = [(0, 0xffff), (1, 1), (0xa038, 0xa038), (0xffff, 0xffff)];
 
+/// Bytes have this sum and this fold, in words and at once.
+fn assert_summed(rt: &impl Abort, bytes: &[u8], sum: u64, folded: u16)
+    requires { length bytes.now ≤ 16 }
+{
+    assert_eq!(rt; sum_words(bytes), sum, "the sum of {bytes:?}");
+    assert_eq!(rt; fold_sum(0, bytes), folded, "the fold of {sum} at once");
+    assert_eq!(rt; fold(sum), folded, "the fold of {sum}");
+    assert_eq!(rt; verifies(sum), folded == 0xffff, "whether {sum} verifies");
+}
+
 #[test]
 fn sums_words_and_folds_them(rt: HostRuntime) {
     for &(bytes, sum, folded) in &SUMS {
         assert!(rt; bytes.len() <= 16);
-        let found = sum_words(bytes);
-        assert_eq!(rt; found, sum, "the sum of {bytes:?}");
-        assert_eq!(rt; fold(found), folded, "the fold of {sum}");
-        assert_eq!(rt; fold_sum(0, bytes), folded, "the fold of {sum} at once");
-        assert_eq!(rt; verifies(found), folded == 0xffff, "whether {sum} verifies");
+        assert_summed(&rt, bytes, sum, folded);
     }
 }
 
