@@ -9,8 +9,6 @@ mod names;
 mod refusal;
 mod report;
 mod sample;
-#[cfg(test)]
-mod tests;
 mod usage;
 mod wire;
 
