@@ -6,7 +6,9 @@ ghost use Rattle.std.specs.Prelude.{◌≤◌, None};
 use std::alloc::{AllocError, Global};
 use std::test::Fail;
 use trex_io::{Failed, MemSource, Source};
-use trex_pcap::{Ahead, CaptureFault, CaptureReader, Format, Record, header, look_ahead, record_header};
+use trex_pcap::{
+    Ahead, CaptureFault, CaptureReader, Format, Record, header, look_ahead, record_header,
+};
 
 #[test]
 fn the_file_header_is_little_endian_in_nanoseconds(rt: HostRuntime) -> Result<(), Fail> {
@@ -361,7 +363,11 @@ const LATE: [(usize, &[Answer]); 3] = [
 fn a_byte_after_the_last_record_is_too_many(rt: HostRuntime) -> Result<(), Fail> {
     for &(count, answers) in &LATE {
         let left = vec![in rt.alloc(); 0; count]?;
-        assert_eq!(rt; last_answers(rt.alloc(), &left)?.as_slice(), answers, "{count} zeros");
+        assert_eq!(rt;
+            last_answers(rt.alloc(), &left)?.as_slice(),
+            answers,
+            "{count} zeros"
+        );
     }
     Ok(())
 }
