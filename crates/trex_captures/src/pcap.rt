@@ -1,11 +1,11 @@
-// Captures that are cut, damaged, in either byte order, of as many records as there may be, and from a source that fails. Their bytes are
-// spelled out here after pcap 2.4.
+// The headers that are written, and captures that are cut, damaged, in either byte order, and from a source that fails. Their bytes are spelled
+// out here after pcap 2.4.
 
-ghost use Rattle.std.specs.Prelude.{◌≤◌, None};
+ghost use Rattle.std.specs.Prelude.{◌≤◌};
 
 use std::alloc::{AllocError, Global};
 use std::test::Fail;
-use trex_io::{Failed, MemSource, Source};
+use trex_io::MemSource;
 use trex_pcap::{
     Ahead, CaptureFault, CaptureReader, Format, Record, header, look_ahead, record_header,
 };
@@ -267,7 +267,7 @@ fn whichever_call_of_the_source_fails_is_the_fault(rt: HostRuntime) -> Result<()
 }
 
 /// How many of the bytes behind a file header are there, how many records came before, and what the bytes tell.
-const AHEAD: [(usize, u64, Ahead); 8] = [
+const AHEAD: [(usize, u64, Ahead); 10] = [
     (0, 0, Ahead::Short),
     (15, 0, Ahead::Short),
     (31, 0, Ahead::Short),
@@ -275,7 +275,9 @@ const AHEAD: [(usize, u64, Ahead); 8] = [
     (64, 0, Ahead::Whole(FIRST)),
     (0, 100_000_000, Ahead::Short),
     (1, 100_000_000, Ahead::Faulty(CaptureFault::TooMany)),
+    (1, 99_999_999, Ahead::Short),
     (15, 99_999_999, Ahead::Short),
+    (32, 99_999_999, Ahead::Whole(LAST)),
 ];
 
 /// The first record of `TWO`.
@@ -284,6 +286,12 @@ const FIRST: Record = Record {
     time: 0,
     captured: 16,
     original: 16,
+};
+
+/// The same record as the last one that there may be.
+const LAST: Record = Record {
+    number: 100_000_000,
+    ..FIRST
 };
 
 #[test]
@@ -296,78 +304,6 @@ fn bytes_tell_of_their_front_what_they_can(rt: HostRuntime) -> Result<(), Fail> 
         let bytes = &TWO[24..24 + length.min(64)];
         let before = before.min(100_000_000);
         assert_eq!(rt; look_ahead(format, before, bytes), ahead, "{length}");
-    }
-    Ok(())
-}
-
-/// A source of zeros without an end.
-#[derive(Drop)]
-struct Zeros;
-
-impl Source for Zeros {
-    ghost left = { λ s. None };
-
-    ghost faults = { λ s. 0 };
-
-    fn read(&mut self, into: &mut [u8]) -> Result<usize, Failed> {
-        into.fill(0);
-        Ok(into.len())
-    }
-}
-
-/// What a reader answers at a record.
-type Answer = Result<Option<Record>, CaptureFault>;
-
-/// The answers of a reader after 99,999,999 empty records, where these bytes come then.
-fn last_answers(alloc: Global, left: &[u8]) -> Result<Vec<Answer>, Fail> {
-    let mut start = MemSource::new(header().to_vec(alloc)?, 100, Vec::new(alloc));
-    let mut into = [0; 262_144];
-    let mut reader = CaptureReader::start(&mut start)?;
-    for _ in 0..99_999_999 {
-        if !reader.live() {
-            return Err("an end too early".into());
-        }
-        reader.next(&mut Zeros, &mut into)?;
-    }
-    let mut source = MemSource::new(left.to_vec(alloc)?, 100, Vec::new(alloc));
-    let mut answers = Vec::new(alloc);
-    for _ in 0..3 {
-        if reader.live() {
-            answers.push(reader.next(&mut source, &mut into))?;
-        }
-    }
-    Ok(answers)
-}
-
-/// The last record that there may be.
-const LAST: Answer = Ok(Some(Record {
-    number: 100_000_000,
-    time: 0,
-    captured: 0,
-    original: 0,
-}));
-
-/// How many zeros come after 99,999,999 empty records, and the answers to them.
-const LATE: [(usize, &[Answer]); 3] = [
-    (16, &[LAST, Ok(None)]),
-    (17, &[LAST, Err(CaptureFault::TooMany)]),
-    (
-        1,
-        &[Err(CaptureFault::Torn {
-            number: 100_000_000,
-        })],
-    ),
-];
-
-#[test]
-fn a_byte_after_the_last_record_is_too_many(rt: HostRuntime) -> Result<(), Fail> {
-    for &(count, answers) in &LATE {
-        let left = vec![in rt.alloc(); 0; count]?;
-        assert_eq!(rt;
-            last_answers(rt.alloc(), &left)?.as_slice(),
-            answers,
-            "{count} zeros"
-        );
     }
     Ok(())
 }

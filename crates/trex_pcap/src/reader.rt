@@ -142,3 +142,55 @@ fn read_record<S: Source>(
     }
     Ok(Some(record))
 }
+
+#[cfg(test)]
+mod tests {
+    use super::*;
+    use std::alloc::{AllocError, Global};
+    use std::test::Fail;
+    use trex_io::MemSource;
+
+    /// The answer to these bytes after `records` records.
+    fn after(
+        alloc: Global,
+        records: u64,
+        left: &[u8],
+    ) -> Result<Result<Option<Record>, CaptureFault>, AllocError>
+        requires { records ≤ 100000000 }
+    {
+        let mut source = MemSource::new(left.to_vec(alloc)?, 100, Vec::new(alloc));
+        let mut into = [0; 262_144];
+        let mut reader = CaptureReader {
+            format: Format {
+                big: false,
+                micro: false,
+            },
+            records,
+            live: true,
+        };
+        Ok(reader.next(&mut source, &mut into))
+    }
+
+    #[test]
+    fn a_byte_after_the_last_record_is_too_many(rt: HostRuntime) -> Result<(), Fail> {
+        let empty = Record {
+            number: 100_000_000,
+            time: 0,
+            captured: 0,
+            original: 0,
+        };
+        assert_eq!(rt; after(rt.alloc(), 99_999_999, &[0; 16])?, Ok(Some(empty)));
+        assert_eq!(rt; after(rt.alloc(), 100_000_000, &[])?, Ok(None));
+        assert_eq!(rt;
+            after(rt.alloc(), 100_000_000, &[0])?,
+            Err(CaptureFault::TooMany)
+        );
+        assert_eq!(rt;
+            after(rt.alloc(), 99_999_999, &[0])?,
+            Err(CaptureFault::Torn {
+                number: 100_000_000
+            })
+        );
+        Ok(())
+    }
+}
