@@ -9,6 +9,8 @@ mod names;
 mod refusal;
 mod report;
 mod sample;
+#[cfg(test)]
+mod tests;
 mod usage;
 mod wire;
 

@@ -1,10 +1,10 @@
 // Lines with their numbers, and sinks that fail.
 
+use super::*;
 use std::alloc::Global;
 use std::test::Fail;
 use trex_io::MemSink;
 use trex_pcap::{CaptureFault, Unfit};
-use trex_report::{Line, write_flows, write_line};
 use trex_stats::Stats;
 use trex_words::{OptionName, Usage};
 
@@ -14,46 +14,39 @@ fn sink(alloc: Global, failing: u64) -> Result<MemSink, Fail> {
     Ok(MemSink::new(alloc, 400, 400, failing)?)
 }
 
-const TORN: CaptureFault = CaptureFault::Torn { number: 0 };
-
-const LONG: CaptureFault = CaptureFault::BadLength { number: 7 };
-
-const MISSING: Usage = Usage::Missing {
-    option: OptionName::Seed,
-};
-
-const SAMPLE: Line = Line::Sample {
-    seed: u64::MAX,
-    streams: 256,
-    packets: 3,
-    bytes: 42,
-    sum: 0x0fa9,
-};
-
-/// Lines and their texts.
-const LINES: [(Line, &str); 8] = [
-    (Line::Accepted { streams: 4096 }, "accepted streams 4096\n"),
-    (Line::BadCapture(TORN), "bad capture: Torn record 0\n"),
-    (Line::BadCapture(LONG), "bad capture: BadLength record 7\n"),
-    (
-        Line::BadCapture(CaptureFault::TooMany),
-        "bad capture: TooMany\n",
-    ),
-    (
-        Line::Unfit(Unfit::Backwards { number: 2 }),
-        "unfit capture: Backwards record 2\n",
-    ),
-    (Line::Unfit(Unfit::TooLarge), "unfit capture: TooLarge\n"),
-    (Line::Usage(MISSING), "usage: Missing option --seed\n"),
-    (
-        SAMPLE,
-        "sample seed 18446744073709551615 streams 256 packets 3 bytes 42 sum 0fa9\n",
-    ),
-];
-
 #[test]
 fn a_line_ends_with_its_numbers(rt: HostRuntime) -> Result<(), Fail> {
-    for &(line, text) in &LINES {
+    let torn = CaptureFault::Torn { number: 0 };
+    let long = CaptureFault::BadLength { number: 7 };
+    let missing = Usage::Missing {
+        option: OptionName::Seed,
+    };
+    let sample = Line::Sample {
+        seed: u64::MAX,
+        streams: 256,
+        packets: 3,
+        bytes: 42,
+        sum: 0x0fa9,
+    };
+    for (line, text) in [
+        (Line::Accepted { streams: 4096 }, "accepted streams 4096\n"),
+        (Line::BadCapture(torn), "bad capture: Torn record 0\n"),
+        (Line::BadCapture(long), "bad capture: BadLength record 7\n"),
+        (
+            Line::BadCapture(CaptureFault::TooMany),
+            "bad capture: TooMany\n",
+        ),
+        (
+            Line::Unfit(Unfit::Backwards { number: 2 }),
+            "unfit capture: Backwards record 2\n",
+        ),
+        (Line::Unfit(Unfit::TooLarge), "unfit capture: TooLarge\n"),
+        (Line::Usage(missing), "usage: Missing option --seed\n"),
+        (
+            sample,
+            "sample seed 18446744073709551615 streams 256 packets 3 bytes 42 sum 0fa9\n",
+        ),
+    ] {
         let mut to = sink(rt.alloc(), 0)?;
         assert_eq!(rt; write_line(&mut to, line), Ok(()));
         assert_eq!(rt; to.bytes(), text.as_bytes());
