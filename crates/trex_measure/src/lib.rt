@@ -4,8 +4,6 @@
 mod fault;
 mod keep;
 mod reading;
-#[cfg(test)]
-mod tests;
 mod window;
 
 pub use fault::MeasureFault;

@@ -9,8 +9,6 @@ mod headers;
 mod laws;
 mod reader;
 mod record;
-#[cfg(test)]
-mod tests;
 mod unfit;
 mod writing;
 

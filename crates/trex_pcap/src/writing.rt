@@ -50,28 +50,3 @@ pub fn record_header(time: u64, length: u32) -> [u8; 16]
     LittleEndian::write_u32(&mut bytes[12..], length);
     bytes
 }
-
-#[cfg(test)]
-mod tests {
-    use super::*;
-    use std::test::Fail;
-
-    #[test]
-    fn the_file_header_is_little_endian_in_nanoseconds(rt: HostRuntime) -> Result<(), Fail> {
-        let wanted = [
-            0x4d, 0x3c, 0xb2, 0xa1, 2, 0, 4, 0, 0, 0, 0, 0, 0, 0, 0, 0, 0, 0, 4, 0, 1, 0, 0, 0,
-        ];
-        assert_eq!(rt; header().as_slice(), wanted.as_slice());
-        Ok(())
-    }
-
-    #[test]
-    fn a_record_header_has_seconds_and_nanoseconds(rt: HostRuntime) -> Result<(), Fail> {
-        let wanted = [1, 0, 0, 0, 0x55, 0x43, 0xde, 0x13, 14, 0, 0, 0, 14, 0, 0, 0];
-        assert_eq!(rt;
-            record_header(1_333_333_333, 14).as_slice(),
-            wanted.as_slice()
-        );
-        Ok(())
-    }
-}

@@ -11,8 +11,6 @@ mod line;
 mod order;
 mod ranges;
 mod stats;
-#[cfg(test)]
-mod tests;
 
 pub use flows::Flows;
 pub use glimpse::Glimpse;

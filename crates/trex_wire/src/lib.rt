@@ -6,8 +6,6 @@ mod lanes;
 mod laws;
 mod merge;
 mod spec;
-#[cfg(test)]
-mod tests;
 mod wire;
 mod words;
 

@@ -1,7 +1,6 @@
-// The numbers of delayed records come from a second program (in Python, by the definition): it draws all words, sorts all arrivals and counts
-// over the whole list. The others are worked by hand.
+// What is measured behind a wire. The numbers of delayed records come from a second program (in Python, by the definition): it draws all words,
+// sorts all arrivals and counts over the whole list. The others are worked by hand.
 
-use super::*;
 use std::alloc::{AllocError, Global};
 use std::fmt::Write;
 use std::process::Abort;
@@ -10,6 +9,7 @@ use trex_io::MemSource;
 use trex_measure::measure;
 use trex_pcap::{header, record_header};
 use trex_stats::Stats;
+use trex_wire::{WireSpec, measure_behind, nothing_vanishes};
 
 const LONGEST: u64 = 1_000_000_000_000_000_000;
 
@@ -78,6 +78,15 @@ fn text_of(alloc: Global, stats: &Stats) -> Result<String, Fail> {
     Ok(text)
 }
 
+/// When each of five packets came, in microseconds, and its number.
+const CAME: [(u32, u16); 5] = [
+    (1_000_001, 0),
+    (1_000_002, 2),
+    (1_000_003, 1),
+    (1_000_004, 2),
+    (1_000_005, 5),
+];
+
 #[test]
 fn what_a_wire_gives_is_measured(rt: HostRuntime) -> Result<(), Fail> {
     nothing_vanishes();
@@ -85,14 +94,8 @@ fn what_a_wire_gives_is_measured(rt: HostRuntime) -> Result<(), Fail> {
     let empty =
         "WireCounts { sent: 0, lost: 0, copied: 0, arrived: 0 } Totals { records: 0, bytes: 0, stamped: 0 }";
     look(&rt, rt.alloc(), &capture, &[(1, 0, 1_000_000, 5, empty)])?;
-    for (micros, number) in &[
-        (1_000_001, 0),
-        (1_000_002, 2),
-        (1_000_003, 1),
-        (1_000_004, 2),
-        (1_000_005, 5),
-    ] {
-        put(&mut capture, *micros, 7, *number)?;
+    for &(micros, number) in &CAME {
+        put(&mut capture, micros, 7, number)?;
     }
     look(&rt, rt.alloc(), &capture, &FIVE)
 }

@@ -1,11 +1,33 @@
-// Captures that are cut, damaged, in either byte order, and from a source that fails. Their bytes are spelled out here after pcap 2.4.
+// The headers that are written, and captures that are cut, damaged, in either byte order, and from a source that fails. Their bytes are spelled
+// out here after pcap 2.4.
 
 ghost use Rattle.std.specs.Prelude.{◌≤◌};
 
-use super::*;
 use std::alloc::{AllocError, Global};
 use std::test::Fail;
 use trex_io::MemSource;
+use trex_pcap::{
+    Ahead, CaptureFault, CaptureReader, Format, Record, header, look_ahead, record_header,
+};
+
+#[test]
+fn the_file_header_is_little_endian_in_nanoseconds(rt: HostRuntime) -> Result<(), Fail> {
+    let wanted = [
+        0x4d, 0x3c, 0xb2, 0xa1, 2, 0, 4, 0, 0, 0, 0, 0, 0, 0, 0, 0, 0, 0, 4, 0, 1, 0, 0, 0,
+    ];
+    assert_eq!(rt; header().as_slice(), wanted.as_slice());
+    Ok(())
+}
+
+#[test]
+fn a_record_header_has_seconds_and_nanoseconds(rt: HostRuntime) -> Result<(), Fail> {
+    let wanted = [1, 0, 0, 0, 0x55, 0x43, 0xde, 0x13, 14, 0, 0, 0, 14, 0, 0, 0];
+    assert_eq!(rt;
+        record_header(1_333_333_333, 14).as_slice(),
+        wanted.as_slice()
+    );
+    Ok(())
+}
 
 /// A capture of two records of 16 bytes: little-endian, nanoseconds.
 const TWO: [u8; 88] = [
@@ -118,23 +140,26 @@ fn any_cut_of_the_source_gives_the_same_records(rt: HostRuntime) -> Result<(), F
     Ok(())
 }
 
+/// To how many bytes the capture of two records is cut, how many records are then read, and the record that is torn.
+const CUTS: [(usize, usize, Option<u64>); 13] = [
+    (0, 0, Some(0)),
+    (23, 0, Some(0)),
+    (24, 0, None),
+    (25, 0, Some(1)),
+    (39, 0, Some(1)),
+    (40, 0, Some(1)),
+    (55, 0, Some(1)),
+    (56, 1, None),
+    (57, 1, Some(2)),
+    (71, 1, Some(2)),
+    (72, 1, Some(2)),
+    (87, 1, Some(2)),
+    (88, 2, None),
+];
+
 #[test]
 fn a_capture_is_torn_inside_its_header_and_inside_each_record(rt: HostRuntime) -> Result<(), Fail> {
-    for (length, records, fault) in [
-        (0, 0, Some(0)),
-        (23, 0, Some(0)),
-        (24, 0, None),
-        (25, 0, Some(1)),
-        (39, 0, Some(1)),
-        (40, 0, Some(1)),
-        (55, 0, Some(1)),
-        (56, 1, None),
-        (57, 1, Some(2)),
-        (71, 1, Some(2)),
-        (72, 1, Some(2)),
-        (87, 1, Some(2)),
-        (88, 2, None),
-    ] {
+    for &(length, records, fault) in &CUTS {
         let reading = read(rt.alloc(), TWO.get(..length).ok_or("too long")?, 7, &[])?;
         let torn = fault.map(|number| CaptureFault::Torn { number });
         assert_eq!(rt; reading.fault, torn, "{length} bytes");
@@ -144,55 +169,54 @@ fn a_capture_is_torn_inside_its_header_and_inside_each_record(rt: HostRuntime) -
 }
 
 /// A place in the capture of two records, four bytes that stand there instead, how many records are then read, and the fault.
-#[derive(Drop)]
-struct Row(u8, [u8; 4], usize, Option<CaptureFault>);
+#[derive(Clone, Copy, Drop)]
+struct Row(usize, [u8; 4], usize, Option<CaptureFault>);
+
+/// The fraction of a whole second.
+const SECOND: [u8; 4] = [0x00, 0xca, 0x9a, 0x3b];
+
+const FRACTION_1: Option<CaptureFault> = Some(CaptureFault::BadFraction { number: 1 });
+
+const FRACTION_2: Option<CaptureFault> = Some(CaptureFault::BadFraction { number: 2 });
+
+const LENGTH_1: Option<CaptureFault> = Some(CaptureFault::BadLength { number: 1 });
+
+const LENGTH_2: Option<CaptureFault> = Some(CaptureFault::BadLength { number: 2 });
+
+const TORN_2: Option<CaptureFault> = Some(CaptureFault::Torn { number: 2 });
+
+const ROWS: [Row; 17] = [
+    Row(0, [0, 0x3c, 0xb2, 0xa1], 0, Some(CaptureFault::BadMagic)),
+    Row(0, [0x4d, 0x3c, 0xb2, 0xa2], 0, Some(CaptureFault::BadMagic)),
+    Row(4, [3, 0, 4, 0], 0, Some(CaptureFault::BadVersion)),
+    Row(4, [2, 0, 4, 1], 0, Some(CaptureFault::BadVersion)),
+    Row(20, [0, 0, 0, 0], 0, Some(CaptureFault::BadLink)),
+    Row(20, [1, 0, 0, 0x10], 0, Some(CaptureFault::BadLink)),
+    Row(16, [0, 0, 0, 0], 2, None),
+    Row(28, SECOND, 0, FRACTION_1),
+    Row(28, [0xff; 4], 0, FRACTION_1),
+    Row(60, SECOND, 1, FRACTION_2),
+    Row(60, [0xff, 0xc9, 0x9a, 0x3b], 2, None),
+    Row(32, [1, 0, 4, 0], 0, LENGTH_1),
+    Row(32, [0xff; 4], 0, LENGTH_1),
+    Row(64, [1, 0, 4, 0], 1, LENGTH_2),
+    Row(64, [0, 0, 4, 0], 1, TORN_2),
+    Row(64, [17, 0, 0, 0], 1, TORN_2),
+    Row(36, [15, 0, 0, 0], 2, None),
+];
+
+/// The capture of two records with four other bytes at a place.
+fn changed(place: usize, bytes: &[u8; 4]) -> Result<[u8; 88], Fail> {
+    let mut text = TWO;
+    let rest = text.get_mut(place..).ok_or("too far")?;
+    rest.get_mut(..4).ok_or("too far")?.copy_from_slice(bytes);
+    Ok(text)
+}
 
 #[test]
 fn each_fault_is_found_where_it_stands(rt: HostRuntime) -> Result<(), Fail> {
-    let second = [0x00, 0xca, 0x9a, 0x3b];
-    for Row(place, bytes, records, fault) in &[
-        Row(0, [0, 0x3c, 0xb2, 0xa1], 0, Some(CaptureFault::BadMagic)),
-        Row(0, [0x4d, 0x3c, 0xb2, 0xa2], 0, Some(CaptureFault::BadMagic)),
-        Row(4, [3, 0, 4, 0], 0, Some(CaptureFault::BadVersion)),
-        Row(4, [2, 0, 4, 1], 0, Some(CaptureFault::BadVersion)),
-        Row(20, [0, 0, 0, 0], 0, Some(CaptureFault::BadLink)),
-        Row(20, [1, 0, 0, 0x10], 0, Some(CaptureFault::BadLink)),
-        Row(16, [0, 0, 0, 0], 2, None),
-        Row(28, second, 0, Some(CaptureFault::BadFraction { number: 1 })),
-        Row(
-            28,
-            [0xff; 4],
-            0,
-            Some(CaptureFault::BadFraction { number: 1 }),
-        ),
-        Row(60, second, 1, Some(CaptureFault::BadFraction { number: 2 })),
-        Row(60, [0xff, 0xc9, 0x9a, 0x3b], 2, None),
-        Row(
-            32,
-            [1, 0, 4, 0],
-            0,
-            Some(CaptureFault::BadLength { number: 1 }),
-        ),
-        Row(
-            32,
-            [0xff; 4],
-            0,
-            Some(CaptureFault::BadLength { number: 1 }),
-        ),
-        Row(
-            64,
-            [1, 0, 4, 0],
-            1,
-            Some(CaptureFault::BadLength { number: 2 }),
-        ),
-        Row(64, [0, 0, 4, 0], 1, Some(CaptureFault::Torn { number: 2 })),
-        Row(64, [17, 0, 0, 0], 1, Some(CaptureFault::Torn { number: 2 })),
-        Row(36, [15, 0, 0, 0], 2, None),
-    ] {
-        let mut text = TWO;
-        let at = usize::from(*place);
-        let changed = text.get_mut(at..at + 4).ok_or("too far")?;
-        changed.copy_from_slice(bytes);
+    for Row(place, bytes, records, fault) in &ROWS {
+        let text = changed(*place, bytes)?;
         let reading = read(rt.alloc(), &text, 1_000, &[])?;
         assert_eq!(rt; reading.fault, *fault, "{bytes:?} at {place}");
         assert_eq!(rt; reading.records.len(), *records, "{bytes:?} at {place}");
@@ -200,14 +224,18 @@ fn each_fault_is_found_where_it_stands(rt: HostRuntime) -> Result<(), Fail> {
     Ok(())
 }
 
+/// A capture of one record, its magic number, and the record's time.
+const MAGICS: [(&[u8; 40], [u8; 4], u64); 4] = [
+    (&BIG, [0xa1, 0xb2, 0xc3, 0xd4], 1_999_999_000),
+    (&BIG, [0xa1, 0xb2, 0x3c, 0x4d], 1_000_999_999),
+    (&LITTLE, [0xd4, 0xc3, 0xb2, 0xa1], 1_999_999_000),
+    (&LITTLE, [0x4d, 0x3c, 0xb2, 0xa1], 1_000_999_999),
+];
+
 #[test]
 fn both_magic_numbers_are_read_in_both_orders(rt: HostRuntime) -> Result<(), Fail> {
-    for (mut text, magic, time) in [
-        (BIG, [0xa1, 0xb2, 0xc3, 0xd4], 1_999_999_000),
-        (BIG, [0xa1, 0xb2, 0x3c, 0x4d], 1_000_999_999),
-        (LITTLE, [0xd4, 0xc3, 0xb2, 0xa1], 1_999_999_000),
-        (LITTLE, [0x4d, 0x3c, 0xb2, 0xa1], 1_000_999_999),
-    ] {
+    for &(text, magic, time) in &MAGICS {
+        let mut text = *text;
         text[..4].copy_from_slice(&magic);
         let reading = read(rt.alloc(), &text, 5, &[])?;
         assert_eq!(rt; reading.fault, NONE);
@@ -223,7 +251,7 @@ fn both_magic_numbers_are_read_in_both_orders(rt: HostRuntime) -> Result<(), Fai
     text[..4].copy_from_slice(&[0xa1, 0xb2, 0xc3, 0xd4]);
     text[28..32].copy_from_slice(&[0, 0x0f, 0x42, 0x40]);
     let late = read(rt.alloc(), &text, 5, &[])?;
-    assert_eq!(rt; late.fault, Some(CaptureFault::BadFraction { number: 1 }));
+    assert_eq!(rt; late.fault, FRACTION_1);
     Ok(())
 }
 
@@ -239,7 +267,7 @@ fn whichever_call_of_the_source_fails_is_the_fault(rt: HostRuntime) -> Result<()
 }
 
 /// How many of the bytes behind a file header are there, how many records came before, and what the bytes tell.
-const AHEAD: [(usize, u64, Ahead); 8] = [
+const AHEAD: [(usize, u64, Ahead); 10] = [
     (0, 0, Ahead::Short),
     (15, 0, Ahead::Short),
     (31, 0, Ahead::Short),
@@ -247,7 +275,9 @@ const AHEAD: [(usize, u64, Ahead); 8] = [
     (64, 0, Ahead::Whole(FIRST)),
     (0, 100_000_000, Ahead::Short),
     (1, 100_000_000, Ahead::Faulty(CaptureFault::TooMany)),
+    (1, 99_999_999, Ahead::Short),
     (15, 99_999_999, Ahead::Short),
+    (32, 99_999_999, Ahead::Whole(LAST)),
 ];
 
 /// The first record of `TWO`.
@@ -256,6 +286,12 @@ const FIRST: Record = Record {
     time: 0,
     captured: 16,
     original: 16,
+};
+
+/// The same record as the last one that there may be.
+const LAST: Record = Record {
+    number: 100_000_000,
+    ..FIRST
 };
 
 #[test]

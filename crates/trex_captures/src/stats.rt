@@ -1,12 +1,12 @@
-// Expected lines come from a second program, which counts by the definitions over the whole list.
+// The counts of packets, flow by flow. Expected lines come from a second program, which counts by the definitions over the whole list.
 
 ghost use Rattle.std.specs.Prelude.{◌≤◌, length};
 
-use super::*;
 use std::alloc::Global;
 use std::test::Fail;
 use trex_io::Memory;
 use trex_stamp::{Stamp, Version, write_stamp};
+use trex_stats::{FlowLine, SeqRanges, Stats, Totals};
 
 /// A packet of a flow: its sequence number, when it was due and when it came, in ns.
 #[derive(Clone, Copy, Drop)]
