@@ -49,6 +49,10 @@ fn arrives(ask: WireSpec, time: u64, word: u64) -> u64
     requires early { time < 2 ^ 63 }
     ensures { result ≡ comes_by ask time word }
 {
+    // Nothing is late, and nothing is to divide.
+    if ask.delay == 0 {
+        return time;
+    }
     time + word % (ask.delay + 1)
 }
 
