@@ -91,7 +91,8 @@ impl Wire {
         let place = self.glimpses.len() as u64;
         self.glimpses.push(Glimpse::of(bytes, original))?;
         let words = draw_three(&mut self.generator);
-        self.lanes.put(self.ask, time, place, bytes.len() as u64, words);
+        self.lanes
+            .put(self.ask, time, place, bytes.len() as u64, words);
         Ok(())
     }
 

@@ -19,10 +19,10 @@ returns-in-Some-clause-counts c =
 
 pub returns-in-None-clause-counts : goal.returns-in-None-clause-counts
 returns-in-None-clause-counts c =
-    on_ok_weaker c.count-2.result
+    on_ok_weaker c.count-in-None.result
     (λ counts rs ss kept stood.
     let at = c.args.due.place in
     let past = subst (λ l. length l ≤ at) kept c.in-None.ensures.lookup.3 in
     counts ss (seen_then c.args.due.time (slice_get rs at)) stood (timed_at c.args.due.time (slice_get rs at))
     (ap glimpse_at (sym (none_at c.args.due.time rs at past)) ∙ sym c.of.ensures))
-    c.count-2.ensures.counts
+    c.count-in-None.ensures.counts

@@ -1,16 +1,19 @@
 use Rattle.std.proofs.Common.{◌≡◌, [], length, map, refl, sym, ◌∙◌, arith, length-append}
 use Rattle.std.proofs.lemmas.List.{length-map}
-use Rattle.trex_stats.proofs.Standing.{but_bytes}
+use Rattle.trex_stats.specs.Counts.{CountsFor}
 use Rattle.trex_wire.specs.Lanes.{both, frame_at, key_in, queue_of}
 use Rattle.trex_wire.proofs.MergeLemmas.{all_sent, begun, none_needed, one_more}
 use Rattle.trex_wire.proofs.merge.merge.Goals as goal
 
 pub sent-init : goal.sent-init
-sent-init c = record {
-  limit = c.new-mill.ensures.limit;
-  two = refl;
-  at = rw c.new-mill.ensures.sent (begun c.args.first.now c.args.second.now c.args.glimpses.now c.new-mill.result.limit c.new-stats.result c.requires.distinct c.requires.first c.requires.second (but_bytes c.new-stats.result [] c.new-stats.ensures.stands) c.new-stats.ensures.records c.new-stats.ensures.stands.bytes);
-}
+sent-init c =
+    let stands = c.new-stats.ensures.stands in
+    let none : CountsFor c.new-stats.result [] = record { records = stands.records; stamped = stands.stamped; flows = stands.flows } in
+    record {
+      limit = c.new-mill.ensures.limit;
+      two = refl;
+      at = rw c.new-mill.ensures.sent (begun c.args.first.now c.args.second.now c.args.glimpses.now c.new-mill.result.limit c.new-stats.result c.requires.distinct c.requires.first c.requires.second none c.new-stats.ensures.records stands.bytes);
+    }
 
 pub sent-preserved : goal.sent-preserved
 sent-preserved c =

@@ -43,8 +43,15 @@ invariant_of-self-2 c =
     let kept = more.glimpses in
     let few : length c.push.new.self.items ≤ 100000000 =
     omega (arith, ap length kept, length-append old.glimpses.items (c.of.result ∷ []), c.requires.few, ap (λ (s : Sent). length s.glimpses) c.self.view_is) in
-    let light = rw (more.first, more.second)
-    (few_bytes old.ask old.lanes.first.items old.lanes.second.items c.len-place.result c.args.time (length c.args.bytes.now) words old.lanes.bytes _ c.requires.short c.self.invariant.2 more.bytes) in (
+    let first : c.put.new.self.first.items ≡ old.lanes.first.items ++ came_by old.ask 0 c.len-place.result c.args.time words.copies words.first =
+    c.put.ensures.first ∙ ap (λ (l : List Due). l ++ came_by old.ask 0 c.len-place.result c.args.time words.copies words.first) room.first in
+    let second : c.put.new.self.second.items ≡ old.lanes.second.items ++ came_by old.ask 1 c.len-place.result c.args.time words.copies words.second =
+    c.put.ensures.second ∙ ap (λ (l : List Due). l ++ came_by old.ask 1 c.len-place.result c.args.time words.copies words.second) room.second in
+    let bytes : c.put.new.self.bytes ≡ old.lanes.bytes + bytes_by 0 old.ask words.copies (length c.args.bytes.now) + bytes_by 1 old.ask words.copies (length c.args.bytes.now) =
+    rw (c.put.ensures.bytes, room.bytes) refl in
+    let light : c.put.new.self.bytes ≤ (length c.put.new.self.first.items + length c.put.new.self.second.items) * 262144 =
+    rw (first, second)
+    (few_bytes old.ask old.lanes.first.items old.lanes.second.items c.len-place.result c.args.time (length c.args.bytes.now) words old.lanes.bytes c.put.new.self.bytes c.requires.short c.self.invariant.2 bytes) in (
       c.self.invariant.0,
       few,
       light,
