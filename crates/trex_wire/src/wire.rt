@@ -91,8 +91,8 @@ impl Wire {
         let place = self.glimpses.len() as u64;
         self.glimpses.push(Glimpse::of(bytes, original))?;
         let words = draw_three(&mut self.generator);
-        self.lanes
-            .put(self.ask, time, place, bytes.len() as u64, words);
+        let captured = bytes.len() as u64;
+        self.lanes.put(self.ask, time, place, captured, words);
         Ok(())
     }
 
