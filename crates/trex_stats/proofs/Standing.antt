@@ -14,7 +14,7 @@ use Rattle.trex_stats.specs.declared.flow.Flow.{Flow}
 use Rattle.trex_stats.specs.declared.glimpse.Glimpse.TheVariants.{Plain, Stamped}
 use Rattle.trex_stats.specs.declared.line.FlowLine.{FlowLine}
 use Rattle.trex_stats.specs.Arrivals.{line_of, sequences}
-use Rattle.trex_stats.specs.Counts.{Counts, StandsFor, captured_of, glimpse_by, glimpse_of, stamp_at, arrival_of, arrival_in, arrivals, with_one, lines_in, lines_of}
+use Rattle.trex_stats.specs.Counts.{Counts, CountsFor, StandsFor, glimpse_by, glimpse_of, stamp_at, arrival_of, arrival_in, arrivals, with_one, lines_in, lines_of}
 use Rattle.trex_stats.specs.Kept.{AreFlow, AreFlows, line_in}
 use Rattle.trex_stats.specs.Ranges.{has}
 use Rattle.trex_stats.proofs.Members.{missing_same}
@@ -45,45 +45,46 @@ arrivals_plain rs r is q =
     ∙ ap (λ o. arrivals rs q ++ cons_option (arrival_in q r.time o) []) (sym is)
     ∙ sym (arrivals-push rs r q)
 
-module _ (c new : Counts) (rs : List Seen) (r : Seen) (stands : StandsFor c rs) (records : new.records ≡ c.records + 1) (bytes : new.bytes ≡ c.bytes + length r.bytes) where
-  all_bytes : new.bytes ≡ sum_by (λ s. length s.bytes) (rs ++ r ∷ [])
-  all_bytes = omega (arith, bytes, stands.bytes, sum_by-append (λ s. length s.bytes) rs (r ∷ []))
+-- counts that stand for some records are theirs but for the bytes, too
+pub but_bytes : (c : Counts) (rs : List Seen) → StandsFor c rs → CountsFor c rs
+but_bytes c rs stands = record { records = stands.records; stamped = stands.stamped; flows = stands.flows }
 
+-- and with the bytes of one record more
+pub with_bytes : (c mid new : Counts) (rs : List Seen) (r : Seen) → StandsFor c rs → CountsFor mid (rs ++ r ∷ []) → mid.bytes ≡ c.bytes → new.bytes ≡ mid.bytes + length r.bytes
+    → new.records ≡ mid.records → new.stamped ≡ mid.stamped → new.flows ≡ mid.flows → StandsFor new (rs ++ r ∷ [])
+with_bytes c mid new rs r stands counts kept bytes records stamped flows = record {
+  records = records ∙ counts.records;
+  bytes = omega (arith, bytes, kept, stands.bytes, sum_by-append (λ s. length s.bytes) rs (r ∷ []));
+  stamped = stamped ∙ counts.stamped;
+  flows = subst (λ l. AreFlows l (arrivals (rs ++ r ∷ []))) (sym flows) counts.flows;
+}
+
+module _ (c new : Counts) (rs : List Seen) (r : Seen) (stands : CountsFor c rs) (records : new.records ≡ c.records + 1) where
   all_records : new.records ≡ length (rs ++ r ∷ [])
   all_records = omega (arith, records, stands.records, length-append rs (r ∷ []))
 
   -- a record that counts for a flow
   pub stands_stamped : (s : Stamp) → stamp_at r ≡ Some s → new.stamped ≡ c.stamped + 1 → AreFlows new.flows (with_one (arrivals rs) s.flow (arrival_of r.time s))
-      → StandsFor new (rs ++ r ∷ [])
+      → CountsFor new (rs ++ r ∷ [])
   stands_stamped s is stamped flows =
       let one : is_some (stamp_at r) ≡ true = ap is_some is in
       let more = sum_by-append (λ t. if is_some (stamp_at t) then 1 else 0) rs (r ∷ []) in
       record {
         records = all_records;
-        bytes = all_bytes;
         stamped = omega (arith, stamped, stands.stamped, rw one at more);
         flows = AreFlows-same new.flows (with_one (arrivals rs) s.flow (arrival_of r.time s)) (arrivals (rs ++ r ∷ [])) (arrivals_stamped rs r s is) flows;
       }
 
   -- a record that doesn't
-  pub stands_plain : stamp_at r ≡ None → new.stamped ≡ c.stamped → new.flows ≡ c.flows → StandsFor new (rs ++ r ∷ [])
+  pub stands_plain : stamp_at r ≡ None → new.stamped ≡ c.stamped → new.flows ≡ c.flows → CountsFor new (rs ++ r ∷ [])
   stands_plain is stamped flows =
       let one : is_some (stamp_at r) ≡ false = ap is_some is in
       let more = sum_by-append (λ t. if is_some (stamp_at t) then 1 else 0) rs (r ∷ []) in
       record {
         records = all_records;
-        bytes = all_bytes;
         stamped = omega (arith, stamped, stands.stamped, rw one at more);
         flows = subst (λ l. AreFlows l (arrivals (rs ++ r ∷ []))) (sym flows) (AreFlows-same c.flows (arrivals rs) (arrivals (rs ++ r ∷ [])) (arrivals_plain rs r is) stands.flows);
       }
-
--- what the counts take of a record has the number of its captured bytes
-captured_by : (n : ℕ) (o : Option Stamp) → captured_of (glimpse_by n o) ≡ n
-captured_by n None = refl
-captured_by n (Some s) = refl
-
-pub captured_glimpse : (r : Seen) → captured_of (glimpse_of r.bytes r.original) ≡ length r.bytes
-captured_glimpse r = captured_by (length r.bytes) (stamp_at r)
 
 -- a record of which the counts take a stamp has this stamp
 pub record HasStamp (r : Seen) (flow sequence sent : ℕ) : Type 0 where
@@ -92,24 +93,23 @@ pub record HasStamp (r : Seen) (flow sequence sent : ℕ) : Type 0 where
   pub flow_is : stamp.flow ≡ flow
   pub arrival_is : (came : ℕ) → arrival_of came stamp ≡ record { sequence = sequence; sent = sent; came = came }
 
-stamp_by : (r : Seen) (captured flow sequence sent : ℕ) (o : Option Stamp) → stamp_at r ≡ o → glimpse_by (length r.bytes) o ≡ Stamped captured flow sequence sent
-    → HasStamp r flow sequence sent
-stamp_by r captured flow sequence sent None is glimpse = cc
-stamp_by r captured flow sequence sent (Some s) is glimpse =
+stamp_by : (r : Seen) (flow sequence sent : ℕ) (o : Option Stamp) → stamp_at r ≡ o → glimpse_by o ≡ Stamped flow sequence sent → HasStamp r flow sequence sent
+stamp_by r flow sequence sent None is glimpse = cc
+stamp_by r flow sequence sent (Some s) is glimpse =
     let number : s.sequence ≡ sequence = cc in
     let time : s.time ≡ sent = cc in
     record { stamp = s; there = is; flow_is = cc; arrival_is = λ came. rw (number, time) refl }
 
-pub glimpse_stamped : (r : Seen) (captured flow sequence sent : ℕ) → glimpse_of r.bytes r.original ≡ Stamped captured flow sequence sent → HasStamp r flow sequence sent
-glimpse_stamped r captured flow sequence sent glimpse = stamp_by r captured flow sequence sent (stamp_at r) refl glimpse
+pub glimpse_stamped : (r : Seen) (flow sequence sent : ℕ) → glimpse_of r.bytes r.original ≡ Stamped flow sequence sent → HasStamp r flow sequence sent
+glimpse_stamped r flow sequence sent glimpse = stamp_by r flow sequence sent (stamp_at r) refl glimpse
 
 -- a record of which they take none has none
-plain_by : (n captured : ℕ) (o : Option Stamp) → glimpse_by n o ≡ Plain captured → o ≡ None
-plain_by n captured None glimpse = refl
-plain_by n captured (Some s) glimpse = cc
+plain_by : (o : Option Stamp) → glimpse_by o ≡ Plain → o ≡ None
+plain_by None glimpse = refl
+plain_by (Some s) glimpse = cc
 
-pub glimpse_plain : (r : Seen) (captured : ℕ) → glimpse_of r.bytes r.original ≡ Plain captured → stamp_at r ≡ None
-glimpse_plain r captured glimpse = plain_by (length r.bytes) captured (stamp_at r) glimpse
+pub glimpse_plain : (r : Seen) → glimpse_of r.bytes r.original ≡ Plain → stamp_at r ≡ None
+glimpse_plain r glimpse = plain_by (stamp_at r) glimpse
 
 -- ---- lines
 

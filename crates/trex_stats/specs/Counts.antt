@@ -22,19 +22,14 @@ whole_stamp bytes original = if length bytes == original then stamp_of bytes els
 abbrev pub stamp_at : Seen → Option Stamp
 stamp_at r = whole_stamp r.bytes r.original
 
--- what the counts take of a record of so many captured bytes with this stamp, if any
-abbrev pub glimpse_by : ℕ → Option Stamp → Glimpse
-glimpse_by captured None = Plain captured
-glimpse_by captured (Some s) = Stamped captured s.flow s.sequence s.time
+-- what the counts take of a record with this stamp, if any
+abbrev pub glimpse_by : Option Stamp → Glimpse
+glimpse_by None = Plain
+glimpse_by (Some s) = Stamped s.flow s.sequence s.time
 
 -- what the counts take of a record of these captured bytes and this original length
 abbrev pub glimpse_of : List ℕ → ℕ → Glimpse
-glimpse_of bytes original = glimpse_by (length bytes) (whole_stamp bytes original)
-
--- how many captured bytes a record has, by what the counts take of it
-abbrev pub captured_of : Glimpse → ℕ
-captured_of (Plain captured) = captured
-captured_of (Stamped captured flow sequence sent) = captured
+glimpse_of bytes original = glimpse_by (whole_stamp bytes original)
 
 -- a packet with this stamp, that came at this time
 abbrev pub arrival_of : ℕ → Stamp → Arrival
@@ -64,6 +59,12 @@ pub record Counts : Type 0 where
 pub record StandsFor (c : Counts) (rs : List Seen) : Type 0 where
   pub records : c.records ≡ length rs
   pub bytes : c.bytes ≡ sum_by (λ r. length r.bytes) rs
+  pub stamped : c.stamped ≡ count_by (λ r. is_some (stamp_at r)) rs
+  pub flows : AreFlows c.flows (arrivals rs)
+
+-- The counts, but for the bytes, are those of these records.
+pub record CountsFor (c : Counts) (rs : List Seen) : Type 0 where
+  pub records : c.records ≡ length rs
   pub stamped : c.stamped ≡ count_by (λ r. is_some (stamp_at r)) rs
   pub flows : AreFlows c.flows (arrivals rs)
 

@@ -1,21 +1,18 @@
 // What the counts take of a record.
 
 ghost use Rattle.std.specs.Prelude.{◌≡◌};
-ghost use Rattle.trex_stats.specs.Counts.{captured_of, glimpse_of, whole_stamp};
+ghost use Rattle.trex_stats.specs.Counts.{glimpse_of, whole_stamp};
 
 use crate::line::FlowNumber;
 use trex_stamp::{Stamp, find_stamp};
 
-/// What the counts take of a record, beside its time.
+/// What the counts take of a record, beside its time and how many captured bytes it has.
 #[derive(Clone, Copy, Debug, PartialEq, Eq, Drop)]
 pub enum Glimpse {
-    /// The record counts for no flow; it has so many captured bytes.
-    Plain {
-        captured: usize,
-    },
+    /// The record counts for no flow.
+    Plain,
     /// The record's packet is whole and ends in a latency header, which has this flow, this sequence number and this time in ns.
     Stamped {
-        captured: u32,
         flow: FlowNumber,
         sequence: u64,
         sent: u64,
@@ -30,24 +27,11 @@ impl Glimpse {
     {
         match whole_stamp(bytes, original) {
             Some(stamp) => Glimpse::Stamped {
-                captured: original,
                 flow: stamp.flow,
                 sequence: stamp.sequence,
                 sent: stamp.time,
             },
-            None => Glimpse::Plain {
-                captured: bytes.len(),
-            },
-        }
-    }
-
-    /// How many captured bytes the record has.
-    pub fn captured(&self) -> usize
-        ensures { result ≡ captured_of self.now }
-    {
-        match self {
-            Glimpse::Plain { captured } => *captured,
-            Glimpse::Stamped { captured, .. } => *captured as usize,
+            None => Glimpse::Plain,
         }
     }
 }

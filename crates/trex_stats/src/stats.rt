@@ -1,6 +1,6 @@
 // The counts of a capture: `Stats::add` for each record in order, and then what is counted.
 
-ghost use Rattle.std.specs.Prelude.{◌≡◌, ℕ, ◌+◌, ◌<◌, ◌≤◌, ◌↔◌, [], ◌∷◌, ◌++◌, List, length, IsTrue, OnOk, OnErr, slice_index_or};
+ghost use Rattle.std.specs.Prelude.{◌≡◌, ℕ, ◌+◌, ◌*◌, ◌<◌, ◌≤◌, ◌↔◌, [], ◌∷◌, ◌++◌, List, length, IsTrue, OnOk, OnErr, slice_index_or};
 ghost use Rattle.std.specs.BTreeMap.{is_at};
 ghost use Rattle.std.specs.List.{All};
 ghost use Rattle.std.specs.List.Sorted.{IsStrictlySortedBy};
@@ -8,7 +8,7 @@ ghost use Rattle.std.specs.Map.{keys_of, lookup};
 ghost use Rattle.std.specs.Ordering.{nat_cmp};
 ghost use Rattle.trex_io.specs.Seen.{Seen};
 ghost use Rattle.trex_stats.specs.Arrivals.{line_of};
-ghost use Rattle.trex_stats.specs.Counts.{StandsFor, arrivals, captured_of, flows_of, glimpse_of, lines_in, lines_of, totals_of, with_one};
+ghost use Rattle.trex_stats.specs.Counts.{CountsFor, StandsFor, arrivals, flows_of, glimpse_of, lines_in, lines_of, totals_of, with_one};
 ghost use Rattle.trex_stats.specs.Kept.{AllUpTo, AreFlows};
 ghost use Rattle.trex_stats.specs.Ranges.{has};
 ghost use Rattle.trex_stats.specs.declared.arrival.Arrival.{Arrival};
@@ -81,16 +81,21 @@ impl Stats {
         ensures records { OnOk result (self.new.records ≡ self.old.records + 1) }
         ensures err { OnErr result (self.new ≡ self.old) }
     {
-        self.count(time, Glimpse::of(bytes, original))
+        self.count(time, Glimpse::of(bytes, original))?;
+        self.add_bytes(bytes.len() as u64);
+        Ok(())
     }
 
-    /// Counts one more record, of this time in ns, by what the counts take of it. Out of memory, the counts are as before.
+    /// Counts one more record, of this time in ns, by what the counts take of it, but not its bytes. Out of memory, the counts are as
+    /// before.
     pub fn count(&mut self, time: u64, glimpse: Glimpse) -> Result<(), Memory>
         requires few { self.old.records < 200000000 }
-        requires short { captured_of glimpse ≤ 262144 }
-        ensures stands { OnOk result ((rs : List Seen) (r : Seen) → StandsFor self.old rs → r.time ≡ time
-            → glimpse_of r.bytes r.original ≡ glimpse → StandsFor self.new (rs ++ r ∷ [])) }
+        ensures counts { OnOk result ((rs : List Seen) (r : Seen) → CountsFor self.old rs → r.time ≡ time
+            → glimpse_of r.bytes r.original ≡ glimpse → CountsFor self.new (rs ++ r ∷ [])) }
         ensures records { OnOk result (self.new.records ≡ self.old.records + 1) }
+        ensures bytes { OnOk result (self.new.bytes ≡ self.old.bytes) }
+        // There is room for its bytes.
+        ensures room { OnOk result (self.new.bytes + 262144 ≤ self.new.records * 262144) }
         ensures err { OnErr result (self.new ≡ self.old) }
     {
         match glimpse {
@@ -98,7 +103,6 @@ impl Stats {
                 flow,
                 sequence,
                 sent,
-                ..
             } => {
                 let arrival = Arrival {
                     sequence,
@@ -108,11 +112,21 @@ impl Stats {
                 arrive(self.alloc, &mut self.flows, flow, arrival)?;
                 self.stamped += 1;
             }
-            Glimpse::Plain { .. } => {}
+            Glimpse::Plain => {}
         }
         self.records += 1;
-        self.bytes += glimpse.captured() as u64;
         Ok(())
+    }
+
+    /// Counts the captured bytes of records that are counted already.
+    pub fn add_bytes(&mut self, bytes: u64)
+        requires few { self.old.bytes + bytes ≤ self.old.records * 262144 }
+        ensures bytes { self.new.bytes ≡ self.old.bytes + bytes }
+        ensures records { self.new.records ≡ self.old.records }
+        ensures stamped { self.new.stamped ≡ self.old.stamped }
+        ensures flows { self.new.flows ≡ self.old.flows }
+    {
+        self.bytes += bytes;
     }
 
     /// The sums over all records.

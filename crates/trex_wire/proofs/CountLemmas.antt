@@ -1,20 +1,23 @@
 -- How many copies arrive.
-use Rattle.std.proofs.Common.{◌≡◌, ℕ, ◌+◌, ◌*◌, ◌<◌, ◌≤◌, ◌==◌, inl, inr, Bool, true, false, cond, nat_eq, nat_lt, List, [], ◌∷◌, ◌++◌, length, map, refl, ap, ◌∙◌, arith, length-append}
+use Rattle.std.proofs.Common.{◌≡◌, ℕ, suc, ◌+◌, ◌*◌, ◌<◌, ◌≤◌, ◌==◌, inl, inr, Bool, true, false, cond, nat_eq, nat_lt, Option, Some, List, [], ◌∷◌, ◌++◌, length, map, refl, sym, subst, ap, ◌∙◌, arith, add-zero, zero-add, length-append}
 use Rattle.std.proofs.lemmas.Bool.Decides.{eqb_tells, nat_tests}
 use Rattle.std.proofs.lemmas.List.{length-map}
 use Rattle.std.proofs.lemmas.List.Elements.{filter-append}
 use Rattle.std.proofs.lemmas.List.Sorted.{length_permutation}
-use Rattle.std.specs.List.{filter, range_with_len}
+use Rattle.std.proofs.lemmas.List.Sums.{sum_by-cons}
+use Rattle.std.specs.List.{filter, range_with_len, slice_get, sum_by}
 use Rattle.trex_io.specs.Seen.{Seen}
 use Rattle.trex_merge.specs.declared.key.Key.{Key}
 use Rattle.trex_merge.specs.Order.{is_before, ordered, placed}
 use Rattle.trex_merge.proofs.OrderLemmas.{filter-ordered}
+use Rattle.trex_stats.specs.Counts.{Counts, CountsFor, StandsFor, arrivals as arrivals_in}
+use Rattle.trex_stats.specs.Kept.{AreFlows}
 use Rattle.trex_vars.specs.Value.{word_at}
 use Rattle.trex_wire.specs.declared.spec.WireSpec.{WireSpec}
 use Rattle.trex_wire.specs.declared.lanes.Due.{Due}
 use Rattle.trex_wire.specs.Lanes.{both, key_in, lane}
-use Rattle.trex_wire.specs.Wired.{arrival, arrivals, copies, copies_by, seen_at, wired, with_copies}
-use Rattle.trex_wire.proofs.LaneLemmas.{AreMoved, arrivals_distinct, both_moved, copies_any}
+use Rattle.trex_wire.specs.Wired.{arrival, arrivals, bytes_of, copies, copies_by, seen_at, seen_then, wired, with_copies}
+use Rattle.trex_wire.proofs.LaneLemmas.{AreMoved, arrivals_distinct, both_moved, copies_any, lane_short}
 
 -- ---- a list in order is as long
 
@@ -112,16 +115,64 @@ lanes_arrive ask rs first second lanes =
 
 -- ---- bounds
 
-lane_short : (ask : WireSpec) (j i : ℕ) (rs : List Seen) → length (lane ask j i rs) ≤ length rs
-lane_short ask j i [] = omega arith
-lane_short ask j i (r ∷ rs) =
-    let later = lane_short ask j (i + 1) rs in
-    let due : Due = record { time = (arrival ask i r.time j).time; place = i } in
-    elim (nat_lt j (copies ask i)) as (λ t. length (cond t (due ∷ []) [] ++ lane ask j (i + 1) rs) ≤ length (r ∷ rs)) [
-      | true ↦ omega (arith, later)
-      | false ↦ omega (arith, later)
-    ]
-
 pub lanes_short : (ask : WireSpec) (rs : List Seen) (first second : List Due) → AreMoved ask rs first second → length first + length second ≤ length rs + length rs
 lanes_short ask rs first second lanes =
     omega (arith, length_permutation (lane ask 0 0 rs) first lanes.moved, length_permutation (lane ask 1 0 rs) second lanes.again, lane_short ask 0 0 rs, lane_short ask 1 0 rs)
+
+-- ---- the bytes of what arrives
+
+sum-placed : {X : Type 0} (f : X → ℕ) (key : X → Key) (a : X) (xs : List X) → sum_by f (placed key a xs) ≡ f a + sum_by f xs
+sum-placed f key a [] = sum_by-cons f a []
+sum-placed f key a (b ∷ rest) =
+    elim (is_before (key a) (key b)) as (λ t. sum_by f (cond t (a ∷ b ∷ rest) (b ∷ placed key a rest)) ≡ f a + sum_by f (b ∷ rest)) [
+      | true ↦ sum_by-cons f a (b ∷ rest)
+      | false ↦ omega (arith, sum_by-cons f b (placed key a rest), sum-placed f key a rest, sum_by-cons f b rest)
+    ]
+
+sum-ordered : {X : Type 0} (f : X → ℕ) (key : X → Key) (xs : List X) → sum_by f (ordered key xs) ≡ sum_by f xs
+sum-ordered f key [] = refl
+sum-ordered f key (a ∷ rest) = omega (arith, sum-placed f key a (ordered key rest), sum-ordered f key rest, sum_by-cons f a rest)
+
+-- the bytes of a copy
+abbrev bytes_in : List Seen → Key → ℕ
+bytes_in all k = length (seen_at all k).bytes
+
+-- a sum over records that arrive is one over their copies
+sum_seen : (all : List Seen) (ks : List Key) → sum_by (λ (r : Seen). length r.bytes) (map (seen_at all) ks) ≡ sum_by (bytes_in all) ks
+sum_seen all [] = refl
+sum_seen all (k ∷ ks) =
+    omega (arith, sum_by-cons (λ (r : Seen). length r.bytes) (seen_at all k) (map (seen_at all) ks), sum_seen all ks, sum_by-cons (bytes_in all) k ks)
+
+-- records that are the end of all, where the first is record i
+all_weighed : (ask : WireSpec) (all : List Seen) (i : ℕ) (rs : List Seen) → ((n : ℕ) → slice_get all (i + n) ≡ slice_get rs n)
+    → sum_by (bytes_in all) (arrivals ask i rs) ≡ bytes_of ask i rs
+all_weighed ask all i [] ends = refl
+all_weighed ask all i (r ∷ rs) ends =
+    let rest = arrivals ask (i + 1) rs in
+    let f = bytes_in all in
+    let w = word_at ask.seed 0 (3 * i) in
+    let here : slice_get all i ≡ Some r = ap (slice_get all) (sym (add-zero i)) ∙ ends 0 in
+    let a = arrival ask i r.time 0 in
+    let b = arrival ask i r.time 1 in
+    let first : f a ≡ length r.bytes = ap (λ (o : Option Seen). length (seen_then a.time o).bytes) here in
+    let second : f b ≡ length r.bytes = ap (λ (o : Option Seen). length (seen_then b.time o).bytes) here in
+    let later : sum_by f rest ≡ bytes_of ask (i + 1) rs =
+    all_weighed ask all (i + 1) rs (λ n. let next : i + 1 + n ≡ i + suc n = omega arith in ap (slice_get all) next ∙ ends (suc n)) in
+    let n = length r.bytes in
+    copies_any (λ (c : ℕ). sum_by f (map (arrival ask i r.time) (range_with_len 0 c) ++ rest) ≡ cond (nat_lt 0 c) n 0 + cond (nat_lt 1 c) n 0 + bytes_of ask (i + 1) rs) ask w
+    (omega (arith, later)) (omega (arith, later, first, sum_by-cons f a rest)) (omega (arith, later, first, second, sum_by-cons f a (b ∷ rest), sum_by-cons f b rest))
+
+pub bytes_arrive : (ask : WireSpec) (rs : List Seen) → sum_by (λ (r : Seen). length r.bytes) (wired rs ask) ≡ bytes_of ask 0 rs
+bytes_arrive ask rs =
+    sum_seen rs (ordered (λ k. k) (arrivals ask 0 rs)) ∙ sum-ordered (bytes_in rs) (λ k. k) (arrivals ask 0 rs)
+    ∙ all_weighed ask rs 0 rs (λ n. ap (slice_get rs) (zero-add n))
+
+-- counts that stand for what arrives but for the bytes, and then have those too
+pub stands_whole : (ask : WireSpec) (rs : List Seen) (mid new : Counts) → CountsFor mid (wired rs ask) → new.records ≡ mid.records → new.stamped ≡ mid.stamped
+    → new.flows ≡ mid.flows → new.bytes ≡ bytes_of ask 0 rs → StandsFor new (wired rs ask)
+stands_whole ask rs mid new counts records stamped flows bytes = record {
+  records = records ∙ counts.records;
+  bytes = bytes ∙ sym (bytes_arrive ask rs);
+  stamped = stamped ∙ counts.stamped;
+  flows = subst (λ l. AreFlows l (arrivals_in (wired rs ask))) (sym flows) counts.flows;
+}

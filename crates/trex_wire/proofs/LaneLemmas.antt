@@ -64,6 +64,17 @@ both_moved ask rs first second lanes =
     (IsPermutation-append (map (key_in 0) (lane ask 0 0 rs)) (map (key_in 0) first) (map (key_in 1) (lane ask 1 0 rs)) (map (key_in 1) second)
     (IsPermutation-map (key_in 0) (lane ask 0 0 rs) first lanes.moved) (IsPermutation-map (key_in 1) (lane ask 1 0 rs) second lanes.again))
 
+-- a lane has no more copies than there are records
+pub lane_short : (ask : WireSpec) (j i : ℕ) (rs : List Seen) → length (lane ask j i rs) ≤ length rs
+lane_short ask j i [] = omega arith
+lane_short ask j i (r ∷ rs) =
+    let later = lane_short ask j (i + 1) rs in
+    let due : Due = record { time = (arrival ask i r.time j).time; place = i } in
+    elim (nat_lt j (copies ask i)) as (λ t. length (cond t (due ∷ []) [] ++ lane ask j (i + 1) rs) ≤ length (r ∷ rs)) [
+      | true ↦ omega (arith, later)
+      | false ↦ omega (arith, later)
+    ]
+
 -- ---- copies are apart
 
 -- what a lane has is of the first record or of a later one

@@ -12,22 +12,23 @@ use Rattle.trex_merge.specs.Queues.{Queue, at_place, is_none_left, next_of, popp
 use Rattle.trex_merge.proofs.QueueLemmas.{end_is_ended, need_is_first, packet_is_least}
 use Rattle.trex_merge.proofs.EventLemmas.{emit_keeps, first_waits, sent_whole}
 use Rattle.trex_merge.proofs.FrameLemmas.{distinct-map, map-ordered}
-use Rattle.trex_stats.specs.Counts.{Counts, StandsFor, captured_of, glimpse_by, glimpse_of, whole_stamp}
+use Rattle.trex_stats.specs.Counts.{Counts, CountsFor}
 use Rattle.trex_stats.specs.declared.glimpse.Glimpse.{Glimpse}
 use Rattle.trex_wire.specs.declared.lanes.Due.{Due}
 use Rattle.trex_wire.specs.declared.merge.Lane.{Lane}
 use Rattle.trex_wire.specs.Lanes.{both, frame_at, key_in, lane_of, queue_of, seen_of}
-use Rattle.trex_wire.specs.Sent.{IsShort, glimpse_at}
+use Rattle.trex_wire.specs.Sent.{glimpse_at}
 use Rattle.trex_wire.specs.Wired.{seen_at, seen_then}
 use Rattle.trex_wire.proofs.CountLemmas.{length-ordered}
 
--- So many copies were sent, and the counts are those of their records, by what is kept of these; the rest waits.
+-- So many copies were sent, and the counts are those of their records, by what is kept of these, but for the bytes; the rest waits.
 pub record IsAt (frames : List Frame) (glimpses : List Glimpse) (queues : List Queue) (sent limit : ℕ) (c : Counts) : Type 0 where
   pub list : List Frame
   pub mill : IsMill frames (record { queues = queues; sent = list; limit = limit })
   pub count : length list ≡ sent
-  pub stands : (rs : List Seen) → glimpses ≡ map glimpse_at rs → StandsFor c (map (seen_of rs) list)
+  pub stands : (rs : List Seen) → glimpses ≡ map glimpse_at rs → CountsFor c (map (seen_of rs) list)
   pub records : c.records ≡ sent
+  pub bytes : c.bytes ≡ 0
   pub quiet : AllByRecursion (λ queue. queue.coming ≡ []) queues
 
 -- ---- the beginning
@@ -63,9 +64,9 @@ module _ (first second : List Due) where
       ∙ sym (map-append frame_at (map (key_in 0) first) (map (key_in 1) second))
 
   pub begun : (glimpses : List Glimpse) (limit : ℕ) (c : Counts) → AreDistinct (λ k. k) (both first second) → IsRising (λ k. k) (map (key_in 0) first)
-      → IsRising (λ k. k) (map (key_in 1) second) → StandsFor c [] → c.records ≡ 0
+      → IsRising (λ k. k) (map (key_in 1) second) → CountsFor c [] → c.records ≡ 0 → c.bytes ≡ 0
       → IsAt (map frame_at (both first second)) glimpses begun_queues 0 limit c
-  begun glimpses limit c distinct rises second_rises stands none = record {
+  begun glimpses limit c distinct rises second_rises stands none no_bytes = record {
     list = [];
     mill = record {
       whole = ap (ordered key_of) all_waits;
@@ -79,6 +80,7 @@ module _ (first second : List Due) where
     count = refl;
     stands = λ rs kept. stands;
     records = none;
+    bytes = no_bytes;
     quiet = (refl, (refl, tt));
   }
 
@@ -96,9 +98,9 @@ comes_next frames glimpses queues sent limit at c is next = subst (λ (n : ℕ).
 
 pub one_more : (frames : List Frame) (glimpses : List Glimpse) (queues : List Queue) (sent limit at : ℕ) (c d : Counts) → IsAt frames glimpses queues sent limit c
     → next_of (limit - sent) queues ≡ Packet at
-    → ((rs ss : List Seen) → glimpses ≡ map glimpse_at rs → StandsFor c ss → StandsFor d (ss ++ map (seen_of rs) (take 1 (waiting_at at queues)))) → d.records ≡ c.records + 1
+    → ((rs ss : List Seen) → glimpses ≡ map glimpse_at rs → CountsFor c ss → CountsFor d (ss ++ map (seen_of rs) (take 1 (waiting_at at queues)))) → d.records ≡ c.records + 1 → d.bytes ≡ c.bytes
     → IsAt frames glimpses (at_place popped at queues) (sent + 1) limit d
-one_more frames glimpses queues sent limit at c d is next stands more =
+one_more frames glimpses queues sent limit at c d is next stands more same =
     let state : MillState = record { queues = queues; sent = is.list; limit = limit } in
     let here = comes_next frames glimpses queues sent limit at c is next in
     let least = packet_is_least (limit - length is.list) at queues here in
@@ -108,8 +110,9 @@ one_more frames glimpses queues sent limit at c d is next stands more =
       list = is.list ++ take 1 (waiting_at at queues);
       mill = subst (λ n. IsMill frames (emitted n state)) here (emit_keeps frames state is.mill);
       count = omega (arith, length-append is.list (take 1 (waiting_at at queues)), one, is.count);
-      stands = λ rs kept. subst (StandsFor d) (sym (map-append (seen_of rs) is.list (take 1 (waiting_at at queues)))) (stands rs (map (seen_of rs) is.list) kept (is.stands rs kept));
+      stands = λ rs kept. subst (CountsFor d) (sym (map-append (seen_of rs) is.list (take 1 (waiting_at at queues)))) (stands rs (map (seen_of rs) is.list) kept (is.stands rs kept));
       records = omega (arith, more, is.records);
+      bytes = same ∙ is.bytes;
       quiet = quiet-popped at queues is.quiet;
     }
 
@@ -144,7 +147,7 @@ seen_frames rs (k ∷ ks) = ap (λ (l : List Seen). seen_at rs k ∷ l) (seen_fr
 
 pub all_sent : (keys : List Key) (glimpses : List Glimpse) (queues : List Queue) (sent limit : ℕ) (c : Counts) → limit ≡ length keys
     → IsAt (map frame_at keys) glimpses queues sent limit c → next_of (limit - sent) queues ≡ End
-    → (rs : List Seen) → glimpses ≡ map glimpse_at rs → StandsFor c (map (seen_at rs) (ordered (λ k. k) keys))
+    → (rs : List Seen) → glimpses ≡ map glimpse_at rs → CountsFor c (map (seen_at rs) (ordered (λ k. k) keys))
 all_sent keys glimpses queues sent limit c enough is next rs kept =
     let frames = map frame_at keys in
     let state : MillState = record { queues = queues; sent = is.list; limit = limit } in
@@ -153,7 +156,7 @@ all_sent keys glimpses queues sent limit c enough is next rs kept =
     let short : length (ordered key_of frames) ≤ limit = omega (arith, length-ordered key_of frames, length-map keys frame_at, enough) in
     let list : is.list ≡ map frame_at (ordered (λ k. k) keys) =
     whole ∙ take_all limit (ordered key_of frames) short ∙ sym (map-ordered (λ k. k) key_of frame_at (λ k. refl) keys) in
-    subst (StandsFor c) (ap (map (seen_of rs)) list ∙ seen_frames rs (ordered (λ k. k) keys)) (is.stands rs kept)
+    subst (CountsFor c) (ap (map (seen_of rs)) list ∙ seen_frames rs (ordered (λ k. k) keys)) (is.stands rs kept)
 
 -- ---- the copy that comes next
 
@@ -183,7 +186,3 @@ pub none_at : (time : ℕ) (rs : List Seen) (at : ℕ) → length (map glimpse_a
 none_at time [] at past = refl
 none_at time (r ∷ rs) zero past = absurd (omega (arith, past))
 none_at time (r ∷ rs) (suc at) past = none_at time rs at (omega (arith, past))
-
-pub short_of : (bytes : List ℕ) (original : ℕ) → length bytes ≤ 262144 → IsShort (glimpse_of bytes original)
-short_of bytes original short =
-    elim (whole_stamp bytes original) as (λ stamp. captured_of (glimpse_by (length bytes) stamp) ≤ 262144) [ None ↦ short | Some s ↦ short ]

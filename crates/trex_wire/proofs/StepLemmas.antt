@@ -1,5 +1,5 @@
 -- A wire is sent a record more.
-use Rattle.std.proofs.Common.{◌≡◌, ℕ, ◌+◌, ◌*◌, ◌≤◌, ◌==◌, cond, true, false, List, [], ◌∷◌, ◌++◌, append-nil, append_assoc, length, sym, ap, ◌∙◌, arith, add-zero, zero-add, length-append}
+use Rattle.std.proofs.Common.{◌≡◌, ℕ, ◌+◌, ◌*◌, ◌≤◌, ◌==◌, cond, true, false, nat_lt, List, [], ◌∷◌, ◌++◌, append-nil, append_assoc, length, sym, ap, ◌∙◌, arith, add-zero, zero-add, length-append}
 use Rattle.std.proofs.lemmas.List.{length-map, map-append}
 use Rattle.trex_io.specs.Seen.{Seen}
 use Rattle.trex_vars.specs.Value.{stands_at, word_at}
@@ -8,7 +8,8 @@ use Rattle.trex_wire.specs.declared.spec.WireSpec.{WireSpec}
 use Rattle.trex_wire.specs.declared.words.Words.{Words}
 use Rattle.trex_wire.specs.Lanes.{came_by, lane, one_with}
 use Rattle.trex_wire.specs.Sent.{Carries, Sent, glimpse_at}
-use Rattle.trex_wire.specs.Wired.{copies_by, with_copies}
+use Rattle.trex_wire.specs.Wired.{bytes_by, bytes_of, comes_by, copies_by, with_copies}
+use Rattle.trex_wire.proofs.LaneLemmas.{lane_short}
 
 -- what a lane gets of record i
 abbrev came_at : WireSpec → ℕ → ℕ → ℕ → List Due
@@ -17,6 +18,10 @@ came_at ask j i time = came_by ask j i time (word_at ask.seed 0 (3 * i)) (word_a
 -- what a number gets of record i
 abbrev one_at : ℕ → WireSpec → ℕ → ℕ
 one_at n ask i = one_with n ask (word_at ask.seed 0 (3 * i))
+
+-- what the bytes get of record i
+abbrev bytes_at : WireSpec → ℕ → ℕ → ℕ
+bytes_at ask i captured = bytes_by 0 ask (word_at ask.seed 0 (3 * i)) captured + bytes_by 1 ask (word_at ask.seed 0 (3 * i)) captured
 
 -- a lane of one more record has its copy more
 lane_more : (ask : WireSpec) (j i : ℕ) (rs : List Seen) (r : Seen) → lane ask j i (rs ++ r ∷ []) ≡ lane ask j i rs ++ came_at ask j (i + length rs) r.time
@@ -36,6 +41,36 @@ count_more n ask i (s ∷ rs) r =
     let place : i + 1 + length rs ≡ i + length (s ∷ rs) = omega arith in
     omega (arith, count_more n ask (i + 1) rs r, ap (one_at n ask) place)
 
+-- the bytes of one more record have those of its copies
+bytes_more : (ask : WireSpec) (i : ℕ) (rs : List Seen) (r : Seen) → bytes_of ask i (rs ++ r ∷ []) ≡ bytes_of ask i rs + bytes_at ask (i + length rs) (length r.bytes)
+bytes_more ask i [] r = omega (arith, ap (λ (n : ℕ). bytes_at ask n (length r.bytes)) (add-zero i))
+bytes_more ask i (s ∷ rs) r =
+    let place : i + 1 + length rs ≡ i + length (s ∷ rs) = omega arith in
+    omega (arith, bytes_more ask (i + 1) rs r, ap (λ (n : ℕ). bytes_at ask n (length r.bytes)) place)
+
+-- a copy adds no more bytes than the longest, and none where it doesn't come
+bytes_came : (ask : WireSpec) (j i time w v captured : ℕ) → captured ≤ 262144 → bytes_by j ask w captured ≤ length (came_by ask j i time w v) * 262144
+bytes_came ask j i time w v captured short =
+    let due : Due = record { time = comes_by ask time v; place = i } in
+    elim (nat_lt j (copies_by ask w)) as (λ t. cond t captured 0 ≤ length (cond t (due ∷ []) []) * 262144) [ true ↦ omega (arith, short) | false ↦ omega arith ]
+
+-- so the bytes of all copies stay as few
+pub few_bytes : (ask : WireSpec) (first second : List Due) (i time captured : ℕ) (words : Words) (old new : ℕ) → captured ≤ 262144 → old ≤ (length first + length second) * 262144
+    → new ≡ old + bytes_by 0 ask words.copies captured + bytes_by 1 ask words.copies captured
+    → new ≤ (length (first ++ came_by ask 0 i time words.copies words.first) + length (second ++ came_by ask 1 i time words.copies words.second)) * 262144
+few_bytes ask first second i time captured words old new short few is =
+    let one = came_by ask 0 i time words.copies words.first in
+    let two = came_by ask 1 i time words.copies words.second in
+    omega (
+      arith,
+      is,
+      few,
+      length-append first one,
+      length-append second two,
+      bytes_came ask 0 i time words.copies words.first captured short,
+      bytes_came ask 1 i time words.copies words.second captured short,
+    )
+
 -- and by one at most
 one_at_most : (n : ℕ) (ask : WireSpec) (w : ℕ) → one_with n ask w ≤ 1
 one_at_most n ask w = elim (copies_by ask w == n) as (λ t. cond t 1 0 ≤ 1) [ true ↦ omega arith | false ↦ omega arith ]
@@ -52,6 +87,7 @@ pub record IsMore (old new : Sent) (r : Seen) (place : ℕ) (words : Words) : Ty
   pub second : new.second ≡ old.second ++ came_by old.ask 1 place r.time words.copies words.second
   pub lost : new.lost ≡ old.lost + one_with 0 old.ask words.copies
   pub copied : new.copied ≡ old.copied + one_with 2 old.ask words.copies
+  pub bytes : new.bytes ≡ old.bytes + bytes_by 0 old.ask words.copies (length r.bytes) + bytes_by 1 old.ask words.copies (length r.bytes)
 
 module _ (s : Sent) (rs : List Seen) (carried : Carries s rs) where
   -- as many records are kept as were sent
@@ -63,6 +99,11 @@ module _ (s : Sent) (rs : List Seen) (carried : Carries s rs) where
 
   pub few_copied : s.copied ≤ length s.glimpses
   few_copied = omega (arith, all_kept, carried.copied, few_counted 2 s.ask 0 rs)
+
+  -- a lane has no more copies than that
+  pub lanes_few : length s.first + length s.second ≤ length s.glimpses + length s.glimpses
+  lanes_few =
+      omega (arith, all_kept, ap length carried.first, ap length carried.second, lane_short s.ask 0 0 rs, lane_short s.ask 1 0 rs)
 
   -- one record more, of the next three words
   pub carries_more : (new : Sent) (r : Seen) (place : ℕ) (words : Words) → place ≡ length s.glimpses → IsMore s new r place words
@@ -82,4 +123,5 @@ module _ (s : Sent) (rs : List Seen) (carried : Carries s rs) where
         second = rw (more.second, more.ask, carried.second, at_end, copies, second) (ap (λ (m : ℕ). lane s.ask 1 0 rs ++ came_at s.ask 1 m r.time) (sym (zero-add n)) ∙ sym (lane_more s.ask 1 0 rs r));
         lost = rw (more.lost, more.ask, carried.lost, copies) (ap (λ (m : ℕ). with_copies 0 s.ask 0 rs + one_at 0 s.ask m) (sym (zero-add n)) ∙ sym (count_more 0 s.ask 0 rs r));
         copied = rw (more.copied, more.ask, carried.copied, copies) (ap (λ (m : ℕ). with_copies 2 s.ask 0 rs + one_at 2 s.ask m) (sym (zero-add n)) ∙ sym (count_more 2 s.ask 0 rs r));
+        bytes = rw (more.bytes, more.ask, carried.bytes, copies) (omega (arith, bytes_more s.ask 0 rs r, ap (λ (m : ℕ). bytes_at s.ask m (length r.bytes)) (zero-add n)));
       }

@@ -60,6 +60,17 @@ abbrev pub with_copies : ℕ → WireSpec → ℕ → List Seen → ℕ
 with_copies n ask i [] = 0
 with_copies n ask i (r ∷ rs) = (if copies ask i == n then 1 else 0) + with_copies n ask (i + 1) rs
 
+-- what a copy of a record adds to the bytes, by the copy and the record's word: nothing where the record has fewer copies
+abbrev pub bytes_by : ℕ → WireSpec → ℕ → ℕ → ℕ
+bytes_by j ask w captured = if nat_lt j (copies_by ask w) then captured else 0
+
+-- the captured bytes of all that arrives of some records, where the first is record i
+abbrev pub bytes_of : WireSpec → ℕ → List Seen → ℕ
+bytes_of ask i [] = 0
+bytes_of ask i (r ∷ rs) =
+    let w = word_at ask.seed 0 (3 * i) in
+    bytes_by 0 ask w (length r.bytes) + bytes_by 1 ask w (length r.bytes) + bytes_of ask (i + 1) rs
+
 -- the numbers of a wire that is sent these records
 abbrev pub wire_counts : List Seen → WireSpec → WireCounts
 wire_counts rs ask = record {

@@ -1,13 +1,12 @@
 // The merge of the two lanes, and the counts of what arrives.
 
 ghost use Rattle.std.specs.Prelude.{◌≡◌, ℕ, ◌+◌, ◌-◌, ◌<◌, ◌≤◌, [], ◌∷◌, ◌++◌, List, length, map, take, slice_get, IfOk, OnOk};
-ghost use Rattle.std.specs.List.{AllByRecursion};
 ghost use Rattle.trex_io.specs.Seen.{Seen};
 ghost use Rattle.trex_merge.specs.Order.{AreDistinct, IsRising, ordered};
 ghost use Rattle.trex_merge.specs.Queues.{at_place, next_of, popped, waiting_at};
-ghost use Rattle.trex_stats.specs.Counts.{StandsFor};
+ghost use Rattle.trex_stats.specs.Counts.{CountsFor};
 ghost use Rattle.trex_wire.specs.Lanes.{both, key_in, queue_of, seen_of};
-ghost use Rattle.trex_wire.specs.Sent.{IsShort, glimpse_at};
+ghost use Rattle.trex_wire.specs.Sent.{glimpse_at};
 ghost use Rattle.trex_wire.specs.Wired.{seen_at, seen_then};
 
 use crate::lanes::Due;
@@ -47,17 +46,17 @@ impl<'a> Feed for Lane<'a> {
     }
 }
 
-/// Counts a record as it arrives.
+/// Counts a record as it arrives, but not its bytes.
 fn count(stats: &mut Stats, glimpses: &[Glimpse], due: Due) -> Result<(), Memory>
     requires few { stats.old.records < 200000000 }
-    requires short { AllByRecursion IsShort glimpses.now }
-    ensures stands { OnOk result ((rs ss : List Seen) → glimpses.now ≡ map glimpse_at rs → StandsFor stats.old ss
-        → StandsFor stats.new (ss ++ seen_then due.time (slice_get rs due.place) ∷ [])) }
+    ensures counts { OnOk result ((rs ss : List Seen) → glimpses.now ≡ map glimpse_at rs → CountsFor stats.old ss
+        → CountsFor stats.new (ss ++ seen_then due.time (slice_get rs due.place) ∷ [])) }
     ensures records { OnOk result (stats.new.records ≡ stats.old.records + 1) }
+    ensures bytes { OnOk result (stats.new.bytes ≡ stats.old.bytes) }
 {
     match glimpses.get(due.place as usize) {
         Some(glimpse) => stats.count(due.time, *glimpse),
-        None => stats.add(due.time, &[], 0),
+        None => stats.count(due.time, Glimpse::of(&[], 0)),
     }
 }
 
@@ -71,11 +70,11 @@ fn pass(
 ) -> Result<(), Memory>
     requires next { next_of (mill.old.limit - mill.old.sent) (map queue_of lanes.old) ≡ Next.Packet feed }
     requires few { stats.old.records < 200000000 }
-    requires short { AllByRecursion IsShort glimpses.now }
     requires two { length lanes.old ≡ 2 }
-    ensures stands { OnOk result ((rs ss : List Seen) → glimpses.now ≡ map glimpse_at rs → StandsFor stats.old ss
-        → StandsFor stats.new (ss ++ map (seen_of rs) (take 1 (waiting_at feed (map queue_of lanes.old))))) }
+    ensures counts { OnOk result ((rs ss : List Seen) → glimpses.now ≡ map glimpse_at rs → CountsFor stats.old ss
+        → CountsFor stats.new (ss ++ map (seen_of rs) (take 1 (waiting_at feed (map queue_of lanes.old))))) }
     ensures records { OnOk result (stats.new.records ≡ stats.old.records + 1) }
+    ensures bytes { OnOk result (stats.new.bytes ≡ stats.old.bytes) }
     ensures limit { OnOk result (mill.new.limit ≡ mill.old.limit) }
     ensures sent { OnOk result (mill.new.sent ≡ mill.old.sent + 1) }
     ensures queues { OnOk result (map queue_of lanes.new ≡ at_place popped feed (map queue_of lanes.old)) }
@@ -86,7 +85,7 @@ fn pass(
     Ok(())
 }
 
-/// The counts of what arrives in two lanes that are in order, the first copies and the second ones.
+/// The counts of what arrives in two lanes that are in order, the first copies and the second ones, but not its bytes.
 pub(crate) fn merge(
     alloc: Global,
     glimpses: &[Glimpse],
@@ -94,12 +93,12 @@ pub(crate) fn merge(
     second: &[Due],
 ) -> Result<Stats, Memory>
     requires few { length first.now + length second.now ≤ 200000000 }
-    requires short { AllByRecursion IsShort glimpses.now }
     requires distinct { AreDistinct (λ k. k) (both first.now second.now) }
     requires first { IsRising (λ k. k) (map (key_in 0) first.now) }
     requires second { IsRising (λ k. k) (map (key_in 1) second.now) }
-    ensures { IfOk result (λ c. (rs : List Seen) → glimpses.now ≡ map glimpse_at rs
-        → StandsFor c (map (seen_at rs) (ordered (λ k. k) (both first.now second.now)))) }
+    ensures counts { IfOk result (λ c. (rs : List Seen) → glimpses.now ≡ map glimpse_at rs
+        → CountsFor c (map (seen_at rs) (ordered (λ k. k) (both first.now second.now)))) }
+    ensures bytes { IfOk result (λ c. c.bytes ≡ 0) }
 {
     let limit = first.len() + second.len();
     let mut mill = Mill::new(limit as u64);

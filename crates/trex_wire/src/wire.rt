@@ -17,7 +17,7 @@ use trex_io::Memory;
 use trex_stats::{Glimpse, Stats};
 
 /// A wire, to which records are sent one after another: `new`, `send` for each record, and at last `measure`. It keeps what the counts
-/// take of each record, and when its copies arrive.
+/// take of each record, when its copies arrive, and the captured bytes of all copies in one number.
 #[derive(Drop)]
 pub struct Wire {
     alloc: Global,
@@ -28,9 +28,8 @@ pub struct Wire {
 }
 
 impl Model for Wire {
-    ghost use Rattle.std.specs.Prelude.{◌≤◌, length};
-    ghost use Rattle.std.specs.List.{AllByRecursion};
-    ghost use Rattle.trex_wire.specs.Sent.{IsCarried, IsShort, Sent};
+    ghost use Rattle.std.specs.Prelude.{◌+◌, ◌*◌, ◌≤◌, length};
+    ghost use Rattle.trex_wire.specs.Sent.{IsCarried, Sent};
     ghost use Rattle.trex_wire.specs.Wired.{IsAsk};
 
     ghost Value = { Sent };
@@ -43,9 +42,11 @@ impl Model for Wire {
       second = w.lanes.second.items;
       lost = w.lanes.lost;
       copied = w.lanes.copied;
+      bytes = w.lanes.bytes;
     } };
 
-    ghost invariant = { λ w. IsAsk w.ask × (length w.glimpses.items ≤ 100000000) × AllByRecursion IsShort w.glimpses.items
+    ghost invariant = { λ w. IsAsk w.ask × (length w.glimpses.items ≤ 100000000)
+        × (w.lanes.bytes ≤ (length w.lanes.first.items + length w.lanes.second.items) * 262144)
         × IsCarried (record {
           ask = w.ask;
           generator = w.generator;
@@ -54,6 +55,7 @@ impl Model for Wire {
           second = w.lanes.second.items;
           lost = w.lanes.lost;
           copied = w.lanes.copied;
+          bytes = w.lanes.bytes;
         }) };
 }
 
@@ -89,7 +91,8 @@ impl Wire {
         let place = self.glimpses.len() as u64;
         self.glimpses.push(Glimpse::of(bytes, original))?;
         let words = draw_three(&mut self.generator);
-        self.lanes.put(self.ask, time, place, words);
+        let captured = bytes.len() as u64;
+        self.lanes.put(self.ask, time, place, captured, words);
         Ok(())
     }
 
@@ -115,7 +118,8 @@ impl Wire {
             copied: lanes.copied,
             arrived: arrived as u64,
         };
-        let stats = merge(alloc, &glimpses, &lanes.first, &lanes.second)?;
+        let mut stats = merge(alloc, &glimpses, &lanes.first, &lanes.second)?;
+        stats.add_bytes(lanes.bytes);
         Ok((stats, counts))
     }
 }

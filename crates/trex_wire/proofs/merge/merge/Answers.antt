@@ -1,21 +1,25 @@
-use Rattle.std.proofs.Common.{◌≡◌, length, map, refl, sym, ◌∙◌, arith, length-append}
+use Rattle.std.proofs.Common.{◌≡◌, [], length, map, refl, sym, ◌∙◌, arith, length-append}
 use Rattle.std.proofs.lemmas.List.{length-map}
+use Rattle.trex_stats.specs.Counts.{CountsFor}
 use Rattle.trex_wire.specs.Lanes.{both, frame_at, key_in, queue_of}
 use Rattle.trex_wire.proofs.MergeLemmas.{all_sent, begun, none_needed, one_more}
 use Rattle.trex_wire.proofs.merge.merge.Goals as goal
 
 pub sent-init : goal.sent-init
-sent-init c = record {
-  limit = c.new-mill.ensures.limit;
-  two = refl;
-  at = rw c.new-mill.ensures.sent (begun c.args.first.now c.args.second.now c.args.glimpses.now c.new-mill.result.limit c.new-stats.result c.requires.distinct c.requires.first c.requires.second c.new-stats.ensures.stands c.new-stats.ensures.records);
-}
+sent-init c =
+    let stands = c.new-stats.ensures.stands in
+    let none : CountsFor c.new-stats.result [] = record { records = stands.records; stamped = stands.stamped; flows = stands.flows } in
+    record {
+      limit = c.new-mill.ensures.limit;
+      two = refl;
+      at = rw c.new-mill.ensures.sent (begun c.args.first.now c.args.second.now c.args.glimpses.now c.new-mill.result.limit c.new-stats.result c.requires.distinct c.requires.first c.requires.second none c.new-stats.ensures.records stands.bytes);
+    }
 
 pub sent-preserved : goal.sent-preserved
 sent-preserved c =
     let passed = c.in_ok-pass-in-Packet.ensures in
     let more = one_more (map frame_at (both c.args.first.now c.args.second.now)) c.args.glimpses.now (map queue_of c.sent.lanes) c.sent.mill.sent c.sent.mill.limit c.in-Packet.feed
-    c.sent.stats c.pass.new.stats c.sent.invariant.at (sym c.in-Packet.ensures) passed.stands passed.records in
+    c.sent.stats c.pass.new.stats c.sent.invariant.at (sym c.in-Packet.ensures) passed.counts passed.records passed.bytes in
     record { limit = passed.limit ∙ c.sent.invariant.limit; two = c.pass.auto.lanes ∙ c.sent.invariant.two; at = rw (passed.queues, passed.sent, passed.limit) more }
 
 pub returns-in-Need : goal.returns-in-Need
@@ -23,8 +27,8 @@ returns-in-Need c =
     absurd (none_needed (map frame_at (both c.args.first.now c.args.second.now)) c.args.glimpses.now (map queue_of c.sent.lanes) c.sent.mill.sent c.sent.mill.limit c.in-Need.core c.sent.stats
     c.sent.invariant.at (sym c.in-Need.ensures))
 
-pub returns-in-End : goal.returns-in-End
-returns-in-End c =
+pub returns-in-End-clause-counts : goal.returns-in-End-clause-counts
+returns-in-End-clause-counts c =
     let first = c.args.first.now in
     let second = c.args.second.now in
     let enough : c.sent.mill.limit ≡ length (both first second) =

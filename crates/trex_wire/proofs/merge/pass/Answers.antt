@@ -3,7 +3,7 @@ use Rattle.std.proofs.lemmas.List.{length-map}
 use Rattle.trex_merge.specs.Frames.{Frame}
 use Rattle.trex_merge.proofs.QueueLemmas.{packet_is_least}
 use Rattle.trex_merge.proofs.FeedLemmas.{feed_waits, feed_within}
-use Rattle.trex_stats.specs.Counts.{StandsFor}
+use Rattle.trex_stats.specs.Counts.{CountsFor}
 use Rattle.trex_wire.specs.declared.lanes.Due.{Due}
 use Rattle.trex_wire.specs.declared.merge.Lane.{Lane}
 use Rattle.trex_wire.specs.Lanes.{frame_at, key_in, queue_of, seen_of}
@@ -29,8 +29,8 @@ bounds-lanes-0 c =
     let waits = feed_waits queue_of c.args.lanes.now c.args.feed d least.frame least.rest least.there in
     omega (arith, waits, length-map lane.rest.now (λ due. frame_at (key_in lane.copy due)))
 
-pub returns-clause-stands : goal.returns-clause-stands
-returns-clause-stands c rs ss kept stood =
+pub returns-clause-counts : goal.returns-clause-counts
+returns-clause-counts c rs ss kept stood =
     let least = packet_is_least (c.args.mill.now.limit - c.args.mill.now.sent) c.args.feed (map queue_of c.args.lanes.now) c.requires.next in
     let within = feed_within queue_of c.args.lanes.now c.args.feed (least.frame ∷ least.rest) least.there in
     let d : Lane = record { copy = 0; rest = record { ref_ptr = (0, 0); now = [] } } in
@@ -38,5 +38,5 @@ returns-clause-stands c rs ss kept stood =
     let lane = get_or c.args.lanes.now c.args.feed d in
     let waits = feed_waits queue_of c.args.lanes.now c.args.feed d least.frame least.rest least.there in
     let some : 0 < length lane.rest.now = omega (arith, waits, length-map lane.rest.now (λ due. frame_at (key_in lane.copy due))) in
-    subst (λ (l : List Frame). StandsFor c.count.new.stats (ss ++ map (seen_of rs) l)) (sym (lane_first c.args.lanes.now c.args.feed d e some within))
-    (c.in_ok-count.ensures.stands rs ss kept stood)
+    subst (λ (l : List Frame). CountsFor c.count.new.stats (ss ++ map (seen_of rs) l)) (sym (lane_first c.args.lanes.now c.args.feed d e some within))
+    (c.in_ok-count.ensures.counts rs ss kept stood)

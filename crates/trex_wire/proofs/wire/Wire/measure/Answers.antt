@@ -1,9 +1,13 @@
-use Rattle.std.proofs.Common.{◌≡◌, ◌+◌, length, map, refl, sym, ap, ◌∙◌, subst, arith}
-use Rattle.trex_stats.specs.Counts.{StandsFor}
+use Rattle.std.proofs.Common.{◌≡◌, ◌+◌, length, map, refl, sym, ap, ◌∙◌, subst, arith, length-append}
+use Rattle.std.proofs.lemmas.List.{length-map}
+use Rattle.std.proofs.lemmas.List.Sorted.{length_permutation}
+use Rattle.trex_merge.specs.Order.{ordered}
+use Rattle.trex_stats.specs.Counts.{CountsFor, StandsFor}
 use Rattle.trex_wire.specs.declared.spec.WireCounts.{WireCounts}
+use Rattle.trex_wire.specs.Lanes.{both, key_in}
 use Rattle.trex_wire.specs.Sent.{Carries, Sent}
-use Rattle.trex_wire.specs.Wired.{seen_at, wire_counts, wired}
-use Rattle.trex_wire.proofs.CountLemmas.{lanes_arrive, lanes_short, nothing_lost}
+use Rattle.trex_wire.specs.Wired.{bytes_of, seen_at, wire_counts, wired}
+use Rattle.trex_wire.proofs.CountLemmas.{lanes_arrive, lanes_short, length-ordered, nothing_lost, stands_whole}
 use Rattle.trex_wire.proofs.LaneLemmas.{are_moved, both_distinct, lane_distinct, ordered_moved}
 use Rattle.trex_wire.proofs.StepLemmas.{all_kept}
 use Rattle.trex_wire.proofs.wire.Wire.measure.Goals as goal
@@ -33,16 +37,44 @@ pub merge-requires-clause-second : goal.merge-requires-clause-second
 merge-requires-clause-second c =
     rw c.deref-3.ensures.value (c.sort_lane-2.ensures.rising 1 (rw c.self.invariant.3.1.second (lane_distinct c.self.inside.ask 1 1 0 c.self.invariant.3.0)))
 
+pub add_bytes-requires : goal.add_bytes-requires
+add_bytes-requires c =
+    let w = c.self.inside in
+    let rs = c.self.invariant.3.0 in
+    let held = c.self.invariant.3.1 in
+    let counts = c.in_ok-stats.ensures.counts rs (c.deref.ensures.value ∙ held.glimpses) in
+    let first = length_permutation w.lanes.first.items _ c.sort_lane.ensures.permutation in
+    let second = length_permutation w.lanes.second.items _ c.sort_lane-2.ensures.permutation in
+    let keys = both c.deref-2.result.now c.deref-3.result.now in
+    omega (
+      arith,
+      c.in_ok-stats.ensures.bytes,
+      counts.records,
+      length-map (ordered (λ k. k) keys) (seen_at rs),
+      length-ordered (λ k. k) keys,
+      length-append (map (key_in 0) c.deref-2.result.now) (map (key_in 1) c.deref-3.result.now),
+      length-map c.deref-2.result.now (key_in 0),
+      length-map c.deref-3.result.now (key_in 1),
+      ap length c.deref-2.ensures.value,
+      ap length c.deref-3.ensures.value,
+      first,
+      second,
+      c.self.invariant.2,
+    )
+
 pub returns-clause-stands : goal.returns-clause-stands
 returns-clause-stands c rs carries =
     let w = c.self.inside in
     let held = subst (λ (s : Sent). Carries s rs) (sym c.self.view_is) carries in
     let lanes = are_moved c.self.inside.ask rs _ _ _ _ c.deref-2.result.now c.deref-3.result.now held.first held.second
     c.sort_lane.ensures.permutation c.sort_lane-2.ensures.permutation c.deref-2.ensures.value c.deref-3.ensures.value in
-    let stands : StandsFor c.in_ok-stats.stats (wired rs w.ask) =
-    subst (StandsFor c.in_ok-stats.stats) (ap (map (seen_at rs)) (ordered_moved w.ask rs c.deref-2.result.now c.deref-3.result.now lanes))
-    (c.in_ok-stats.ensures rs (c.deref.ensures.value ∙ held.glimpses)) in
-    subst (λ (s : Sent). StandsFor c.in_ok-stats.stats (wired rs s.ask)) c.self.view_is stands
+    let counts : CountsFor c.in_ok-stats.stats (wired rs w.ask) =
+    subst (CountsFor c.in_ok-stats.stats) (ap (map (seen_at rs)) (ordered_moved w.ask rs c.deref-2.result.now c.deref-3.result.now lanes))
+    (c.in_ok-stats.ensures.counts rs (c.deref.ensures.value ∙ held.glimpses)) in
+    let added = c.add_bytes.ensures in
+    let bytes : c.add_bytes.new.self.bytes ≡ bytes_of w.ask 0 rs = omega (arith, added.bytes, c.in_ok-stats.ensures.bytes, held.bytes) in
+    let stands = stands_whole w.ask rs c.in_ok-stats.stats c.add_bytes.new.self counts added.records added.stamped added.flows bytes in
+    subst (λ (s : Sent). StandsFor c.add_bytes.new.self (wired rs s.ask)) c.self.view_is stands
 
 pub returns-clause-counts : goal.returns-clause-counts
 returns-clause-counts c rs carries =

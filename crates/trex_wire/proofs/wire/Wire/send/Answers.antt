@@ -1,13 +1,11 @@
 use Rattle.std.proofs.Common.{◌≡◌, ℕ, ◌+◌, ◌*◌, ◌≤◌, List, [], ◌∷◌, ◌++◌, length, refl, sym, ap, ◌∙◌, subst, arith, length-append}
-use Rattle.std.specs.List.{AllByRecursion}
 use Rattle.trex_io.specs.Seen.{Seen}
-use Rattle.trex_merge.proofs.ListLemmas.{all-append}
 use Rattle.trex_stats.specs.declared.glimpse.Glimpse.{Glimpse}
 use Rattle.trex_wire.specs.declared.lanes.Due.{Due}
 use Rattle.trex_wire.specs.Lanes.{came_by, one_with}
-use Rattle.trex_wire.specs.Sent.{Carries, IsShort, Sent}
-use Rattle.trex_wire.proofs.MergeLemmas.{short_of}
-use Rattle.trex_wire.proofs.StepLemmas.{IsMore, carries_more, few_copied, few_lost}
+use Rattle.trex_wire.specs.Sent.{Carries, Sent}
+use Rattle.trex_wire.specs.Wired.{bytes_by}
+use Rattle.trex_wire.proofs.StepLemmas.{IsMore, carries_more, few_bytes, few_copied, few_lost, lanes_few}
 use Rattle.trex_wire.proofs.wire.Wire.send.Goals as goal
 
 pub put-requires-clause-lost : goal.put-requires-clause-lost
@@ -17,6 +15,11 @@ put-requires-clause-lost c =
 pub put-requires-clause-copied : goal.put-requires-clause-copied
 put-requires-clause-copied c =
     omega (arith, c.in_ok-make_room.ensures.copied, few_copied _ c.self.invariant.3.0 c.self.invariant.3.1, c.requires.few, ap (λ (s : Sent). length s.glimpses) c.self.view_is)
+
+pub put-requires-clause-bytes : goal.put-requires-clause-bytes
+put-requires-clause-bytes c =
+    let few = lanes_few _ c.self.invariant.3.0 c.self.invariant.3.1 in
+    omega (arith, c.in_ok-make_room.ensures.bytes, c.self.invariant.2, few, c.requires.few, ap (λ (s : Sent). length s.glimpses) c.self.view_is)
 
 pub invariant_of-self-2 : goal.invariant_of-self-2
 invariant_of-self-2 c =
@@ -35,15 +38,23 @@ invariant_of-self-2 c =
       second = c.put.ensures.second ∙ ap (λ (l : List Due). l ++ came_by old.ask 1 c.len-place.result c.args.time words.copies words.second) room.second;
       lost = c.put.ensures.lost ∙ ap (λ (n : ℕ). n + one_with 0 old.ask words.copies) room.lost;
       copied = c.put.ensures.copied ∙ ap (λ (n : ℕ). n + one_with 2 old.ask words.copies) room.copied;
+      bytes = rw (c.put.ensures.bytes, room.bytes) refl;
     } in
     let kept = more.glimpses in
     let few : length c.push.new.self.items ≤ 100000000 =
     omega (arith, ap length kept, length-append old.glimpses.items (c.of.result ∷ []), c.requires.few, ap (λ (s : Sent). length s.glimpses) c.self.view_is) in
-    let short : AllByRecursion IsShort c.push.new.self.items =
-    rw (c.in_ok-push.ensures.items, c.of.ensures) (all-append IsShort old.glimpses.items (_ ∷ []) c.self.invariant.2 (short_of c.args.bytes.now c.args.original c.requires.short, tt)) in (
+    let first : c.put.new.self.first.items ≡ old.lanes.first.items ++ came_by old.ask 0 c.len-place.result c.args.time words.copies words.first =
+    c.put.ensures.first ∙ ap (λ (l : List Due). l ++ came_by old.ask 0 c.len-place.result c.args.time words.copies words.first) room.first in
+    let second : c.put.new.self.second.items ≡ old.lanes.second.items ++ came_by old.ask 1 c.len-place.result c.args.time words.copies words.second =
+    c.put.ensures.second ∙ ap (λ (l : List Due). l ++ came_by old.ask 1 c.len-place.result c.args.time words.copies words.second) room.second in
+    let bytes : c.put.new.self.bytes ≡ old.lanes.bytes + bytes_by 0 old.ask words.copies (length c.args.bytes.now) + bytes_by 1 old.ask words.copies (length c.args.bytes.now) =
+    rw (c.put.ensures.bytes, room.bytes) refl in
+    let light : c.put.new.self.bytes ≤ (length c.put.new.self.first.items + length c.put.new.self.second.items) * 262144 =
+    rw (first, second)
+    (few_bytes old.ask old.lanes.first.items old.lanes.second.items c.len-place.result c.args.time (length c.args.bytes.now) words old.lanes.bytes c.put.new.self.bytes c.requires.short c.self.invariant.2 bytes) in (
       c.self.invariant.0,
       few,
-      short,
+      light,
       (
         rs ++ r ∷ [],
         carries_more _ rs carried _ r c.len-place.result words place more (drawn.copies old.ask.seed (3 * length rs) carried.generator) (drawn.first old.ask.seed (3 * length rs) carried.generator)
@@ -67,6 +78,7 @@ returns-clause-sent c rs carries =
       second = c.put.ensures.second ∙ ap (λ (l : List Due). l ++ came_by old.ask 1 c.len-place.result c.args.time words.copies words.second) room.second;
       lost = c.put.ensures.lost ∙ ap (λ (n : ℕ). n + one_with 0 old.ask words.copies) room.lost;
       copied = c.put.ensures.copied ∙ ap (λ (n : ℕ). n + one_with 2 old.ask words.copies) room.copied;
+      bytes = rw (c.put.ensures.bytes, room.bytes) refl;
     } in
     carries_more _ rs carried _ r c.len-place.result words place more (drawn.copies old.ask.seed (3 * length rs) carried.generator) (drawn.first old.ask.seed (3 * length rs) carried.generator)
     (drawn.second old.ask.seed (3 * length rs) carried.generator) (drawn.stands old.ask.seed (3 * length rs) carried.generator)
