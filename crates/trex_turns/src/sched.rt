@@ -1,16 +1,16 @@
-// Walks over chains, packet by packet, and the laws called once.
+// Periods, walks over chains, packet by packet, and the laws called once.
 
 ghost use Rattle.std.specs.Prelude.{IfOk};
 ghost use Rattle.trex_sched.specs.Chain.{chain_of, IsChain};
 ghost use Rattle.trex_sched.specs.Times.{HasPackets};
 
-use crate::{
-    ChainSpec, Leg, Mode, Period, Walk, chains_are_apart, entries_rise, offsets_rise, runs_rise,
-};
 use std::alloc::{AllocError, Global};
 use std::process::Abort;
 use std::test::Fail;
 use trex_merge::Keyed;
+use trex_sched::{
+    ChainSpec, Leg, Mode, Period, Walk, chains_are_apart, entries_rise, offsets_rise, runs_rise,
+};
 
 /// A walk sends packets of these times, streams and numbers, and no others.
 fn sends(rt: &impl Abort, mut walk: Walk<'_>, packets: &[(u64, u32, u64)]) {

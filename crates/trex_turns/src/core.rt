@@ -6,11 +6,11 @@ ghost use Rattle.trex_profile.specs.Flow.{IsFlow};
 ghost use Rattle.trex_profile.specs.Instruction.{instruction, IsRawInstr};
 ghost use Rattle.trex_profile.specs.Stream.{IsRawStream};
 
-use crate::{CoreWork, Plan, batches_are_longest, plans_rise, turns_keep_packets};
 use std::alloc::Global;
 use std::process::Abort;
 use std::test::Fail;
 use trex_claims::Piece;
+use trex_core::{CoreWork, Plan, batches_are_longest, plans_rise, turns_keep_packets};
 use trex_merge::Feed;
 use trex_profile::{
     AdmitFault, Flow, Name, Profile, RateKind, RawInstr, RawPlace, RawProfile, RawRate, RawStream,

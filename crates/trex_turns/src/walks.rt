@@ -6,11 +6,10 @@ ghost use Rattle.trex_sched.specs.Chain.{chain_of, IsChain};
 ghost use Rattle.trex_sched.specs.Times.{HasPackets};
 ghost use Rattle.trex_sched.specs.Walks.{HaveDistinctStreams};
 
-use super::Walks;
-use crate::{ChainSpec, Leg, Mode, Period};
 use std::alloc::{AllocError, Global};
 use std::process::Abort;
 use std::test::Fail;
+use trex_sched::{ChainSpec, Leg, Mode, Period, Walks};
 
 /// Three chains of one leg each, which nothing follows.
 fn three(alloc: Global, a: Leg, b: Leg, c: Leg) -> Result<[ChainSpec; 3], AllocError>

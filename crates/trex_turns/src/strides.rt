@@ -1,13 +1,12 @@
 // Each packet's time, stream after stream, on each number of cores. The times follow from the sections "Times", "Modes" and "Chains" of
-// docs/MEANING.md: they were computed in Python with whole numbers, and not by this crate.
+// docs/MEANING.md: they were computed in Python with whole numbers, and not by trex_sched.
 
 ghost use Rattle.std.specs.Prelude.{◌≤◌, ◌^◌};
 ghost use Rattle.trex_sched.specs.Chain.{chain_of, IsChain};
 
-use super::Walk;
-use crate::{ChainSpec, Leg, Mode, Period};
 use std::process::Abort;
 use std::test::Fail;
+use trex_sched::{ChainSpec, Leg, Mode, Period, Walk};
 
 /// A burst of 70 packets each 10 / 3 ns, 2 ns after what is before it.
 const BURST: [u64; 210] = [
