@@ -4,7 +4,7 @@
 #[cfg(test)]
 mod claims;
 #[cfg(test)]
-mod core;
+mod cores;
 #[cfg(test)]
 mod crew;
 #[cfg(test)]

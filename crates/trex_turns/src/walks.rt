@@ -6,6 +6,7 @@ ghost use Rattle.trex_sched.specs.Chain.{chain_of, IsChain};
 ghost use Rattle.trex_sched.specs.Times.{HasPackets};
 ghost use Rattle.trex_sched.specs.Walks.{HaveDistinctStreams};
 
+use crate::sched::{Packet, alone, leg, packet};
 use std::alloc::{AllocError, Global};
 use std::process::Abort;
 use std::test::Fail;
@@ -18,105 +19,88 @@ fn three(alloc: Global, a: Leg, b: Leg, c: Leg) -> Result<[ChainSpec; 3], AllocE
     ensures chains { IfOk result (λ chains. AllByRecursion IsChain (map chain_of chains)) }
     ensures streams { IfOk result (λ chains. HaveDistinctStreams (map chain_of chains)) }
 {
-    let first = ChainSpec {
-        legs: vec![in alloc; a]?,
-        back: None,
-    };
-    let second = ChainSpec {
-        legs: vec![in alloc; b]?,
-        back: None,
-    };
-    let third = ChainSpec {
-        legs: vec![in alloc; c]?,
-        back: None,
-    };
+    let first = alone(alloc, a)?;
+    let second = alone(alloc, b)?;
+    let third = alone(alloc, c)?;
     Ok([first, second, third])
 }
 
-/// The walks send packets of these times, streams and numbers, and no others.
-fn send(rt: &impl Abort, mut walks: Walks<'_>, packets: &[(u64, u32, u64)]) {
-    for packet in packets {
+/// The walks send these packets, and no others.
+fn send(rt: &impl Abort, mut walks: Walks<'_>, packets: &[Packet]) {
+    for expected in packets {
         let next = walks.peek();
-        assert_eq!(rt;
-            next.map(|slot| (slot.time, slot.stream, slot.number)),
-            Some(*packet)
-        );
+        assert_eq!(rt; next.map(packet), Some(*expected));
         assert_eq!(rt; walks.next(), next);
     }
     assert!(rt; walks.next().is_none());
 }
 
+/// The packets of three streams at two times.
+const TOGETHER: [Packet; 6] = [
+    (0, 3, 0),
+    (0, 5, 0),
+    (0, 7, 0),
+    (10, 3, 1),
+    (10, 5, 1),
+    (10, 7, 1),
+];
+
+/// The packets of a stream each 4 ns, of one each 6 ns from 1 ns on, and of a burst from 5 ns on.
+const MIXED: [Packet; 9] = [
+    (0, 0, 0),
+    (1, 1, 0),
+    (4, 0, 1),
+    (5, 2, 0),
+    (6, 2, 1),
+    (7, 1, 1),
+    (7, 2, 2),
+    (8, 0, 2),
+    (12, 0, 3),
+];
+
+/// Those of them that the second of two cores sends.
+const MIXED_OF_SECOND: [Packet; 4] = [(4, 0, 1), (6, 2, 1), (7, 1, 1), (12, 0, 3)];
+
 #[test]
 fn of_packets_at_one_time_the_lower_stream_goes_first(rt: HostRuntime) -> Result<(), Fail> {
-    let leg = Leg {
-        stream: 7,
-        isg: 0,
-        period: Period::new(10, 1).ok_or("no period")?,
-        mode: Mode::Continuous,
-        actions: 0,
-    };
+    let alloc = rt.alloc();
+    let period = Period::new(10, 1).ok_or("no period")?;
     let chains = three(
-        rt.alloc(),
-        leg,
-        Leg { stream: 3, ..leg },
-        Leg { stream: 5, ..leg },
+        alloc,
+        leg(7, period, Mode::Continuous, 0),
+        leg(3, period, Mode::Continuous, 0),
+        leg(5, period, Mode::Continuous, 0),
     )?;
-    let walks = Walks::start(rt.alloc(), &chains, 0, 1, 11)
-        .ok()
-        .ok_or("no memory")?;
-    let packets = [
-        (0, 3, 0),
-        (0, 5, 0),
-        (0, 7, 0),
-        (10, 3, 1),
-        (10, 5, 1),
-        (10, 7, 1),
-    ];
-    send(&rt, walks, &packets);
+    let walks = Walks::start(alloc, &chains, 0, 1, 11)?;
+    send(&rt, walks, &TOGETHER);
     Ok(())
+}
+
+/// A stream each 4 ns, one each 6 ns from 1 ns on, and a burst from 5 ns on.
+fn mixed(alloc: Global) -> Result<[ChainSpec; 3], Fail>
+    ensures chains { IfOk result (λ chains. AllByRecursion IsChain (map chain_of chains)) }
+    ensures streams { IfOk result (λ chains. HaveDistinctStreams (map chain_of chains)) }
+{
+    let slow = leg(0, Period::new(4, 1).ok_or("no period")?, Mode::Continuous, 0);
+    let later = Leg {
+        isg: 1,
+        ..leg(1, Period::new(6, 1).ok_or("no period")?, Mode::Continuous, 0)
+    };
+    let period = Period::new(1, 1).ok_or("no period")?;
+    let burst = Leg {
+        isg: 5,
+        ..leg(2, period, Mode::SingleBurst { total: 3 }, 0)
+    };
+    Ok(three(alloc, slow, later, burst)?)
 }
 
 #[test]
 fn chains_of_different_rates_go_by_time_on_each_core(rt: HostRuntime) -> Result<(), Fail> {
-    let slow = Leg {
-        stream: 0,
-        isg: 0,
-        period: Period::new(4, 1).ok_or("no period")?,
-        mode: Mode::Continuous,
-        actions: 0,
-    };
-    let later = Leg {
-        stream: 1,
-        isg: 1,
-        period: Period::new(6, 1).ok_or("no period")?,
-        ..slow
-    };
-    let burst = Leg {
-        stream: 2,
-        isg: 5,
-        period: Period::new(1, 1).ok_or("no period")?,
-        mode: Mode::SingleBurst { total: 3 },
-        actions: 0,
-    };
-    let chains = three(rt.alloc(), slow, later, burst)?;
-    let all = Walks::start(rt.alloc(), &chains, 0, 1, 13)
-        .ok()
-        .ok_or("no memory")?;
-    let packets = [
-        (0, 0, 0),
-        (1, 1, 0),
-        (4, 0, 1),
-        (5, 2, 0),
-        (6, 2, 1),
-        (7, 1, 1),
-        (7, 2, 2),
-        (8, 0, 2),
-        (12, 0, 3),
-    ];
-    send(&rt, all, &packets);
-    let second = Walks::start(rt.alloc(), &chains, 1, 2, 13)
-        .ok()
-        .ok_or("no memory")?;
-    send(&rt, second, &[(4, 0, 1), (6, 2, 1), (7, 1, 1), (12, 0, 3)]);
+    let alloc = rt.alloc();
+    let chains = mixed(alloc)?;
+    let all = Walks::start(alloc, &chains, 0, 1, 13)?;
+    send(&rt, all, &MIXED);
+    let second = Walks::start(alloc, &chains, 1, 2, 13)?;
+    send(&rt, second, &MIXED_OF_SECOND);
     Ok(())
 }
