@@ -178,13 +178,7 @@ fn sends_one(rt: &impl Abort, work: &mut CoreWork<'_>, number: u64, end: &[u8]) 
 }
 
 /// Of some packets those that wait are those whose numbers leave `core` as the remainder by `cores`, and no others are to come.
-fn sends(
-    rt: &impl Abort,
-    work: &mut CoreWork<'_>,
-    core: u32,
-    cores: u32,
-    packets: &[(u64, &[u8])],
-)
+fn sends(rt: &impl Abort, work: &mut CoreWork<'_>, core: u32, cores: u32, packets: &[(u64, &[u8])])
     requires { 0 < cores }
 {
     for (number, end) in packets {

@@ -163,17 +163,9 @@ fn two_streams_send_in_turn(rt: HostRuntime) -> Result<(), Fail> {
     let chain = in_turn(alloc, first, second)?;
     sends(&rt, Walk::start(&chain, 0, 1, 7), &IN_TURN);
     let chain = in_turn(alloc, stopping, second)?;
-    sends(
-        &rt,
-        Walk::start(&chain, 0, 1, 1_000_000_000),
-        &IN_TURN[..3],
-    );
+    sends(&rt, Walk::start(&chain, 0, 1, 1_000_000_000), &IN_TURN[..3]);
     let chain = alone(alloc, first)?;
-    sends(
-        &rt,
-        Walk::start(&chain, 0, 1, 1_000_000_000),
-        &IN_TURN[..1],
-    );
+    sends(&rt, Walk::start(&chain, 0, 1, 1_000_000_000), &IN_TURN[..1]);
     Ok(())
 }
 
@@ -182,11 +174,7 @@ fn a_stream_that_follows_itself_counts_on(rt: HostRuntime) -> Result<(), Fail> {
     let period = Period::new(1, 1).ok_or("no period")?;
     let leg = leg(3, period, Mode::SingleBurst { total: 2 }, 3);
     let chain = again(rt.alloc(), leg)?;
-    sends(
-        &rt,
-        Walk::start(&chain, 0, 1, 1_000_000_000),
-        &COUNTING_ON,
-    );
+    sends(&rt, Walk::start(&chain, 0, 1, 1_000_000_000), &COUNTING_ON);
     Ok(())
 }
 

@@ -81,10 +81,20 @@ fn mixed(alloc: Global) -> Result<[ChainSpec; 3], Fail>
     ensures chains { IfOk result (λ chains. AllByRecursion IsChain (map chain_of chains)) }
     ensures streams { IfOk result (λ chains. HaveDistinctStreams (map chain_of chains)) }
 {
-    let slow = leg(0, Period::new(4, 1).ok_or("no period")?, Mode::Continuous, 0);
+    let slow = leg(
+        0,
+        Period::new(4, 1).ok_or("no period")?,
+        Mode::Continuous,
+        0,
+    );
     let later = Leg {
         isg: 1,
-        ..leg(1, Period::new(6, 1).ok_or("no period")?, Mode::Continuous, 0)
+        ..leg(
+            1,
+            Period::new(6, 1).ok_or("no period")?,
+            Mode::Continuous,
+            0,
+        )
     };
     let period = Period::new(1, 1).ok_or("no period")?;
     let burst = Leg {
