@@ -7,8 +7,6 @@ mod counting;
 mod laws;
 mod piece;
 mod rule;
-#[cfg(test)]
-mod tests;
 mod view;
 
 pub use board::{Board, Seat};

@@ -8,8 +8,6 @@ mod maker;
 mod plan;
 mod registers;
 mod run;
-#[cfg(test)]
-mod tests;
 mod waiting;
 mod work;
 

@@ -14,6 +14,3 @@ mod workers;
 pub use crew::Crew;
 pub use gate::{Gate, Open};
 pub use list_gate::ListGate;
-
-#[cfg(test)]
-mod tests;

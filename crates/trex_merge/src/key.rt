@@ -39,37 +39,3 @@ pub fn is_before(a: &Key, b: &Key) -> bool
 {
     (a.time, a.stream, a.number) < (b.time, b.stream, b.number)
 }
-
-#[cfg(test)]
-mod tests {
-    use super::*;
-    use crate::{least_goes_first, order_is_unique};
-
-    #[test]
-    fn time_goes_before_stream_and_stream_before_number(rt: HostRuntime) {
-        order_is_unique::<Key>();
-        least_goes_first::<Key>();
-        let rising = [
-            (1, 0, 9),
-            (1, 1, 0),
-            (1, 1, 7),
-            (2, 0, 0),
-            (1_000_000_000_000_000_000, 4_095, 3),
-        ];
-        for (i, a) in rising.iter().enumerate() {
-            for (j, b) in rising.iter().enumerate() {
-                let a = Key {
-                    time: a.0,
-                    stream: a.1,
-                    number: a.2,
-                };
-                let b = Key {
-                    time: b.0,
-                    stream: b.1,
-                    number: b.2,
-                };
-                assert_eq!(rt; is_before(&a, &b), i < j);
-            }
-        }
-    }
-}

@@ -9,8 +9,6 @@ mod mill;
 mod next;
 mod order;
 mod place;
-#[cfg(test)]
-mod tests;
 
 pub use feed::Feed;
 pub use head::Head;

@@ -11,8 +11,6 @@ mod run;
 mod slot;
 mod steps;
 mod stride;
-#[cfg(test)]
-mod tests;
 mod times;
 mod walk;
 mod walks;

@@ -80,30 +80,3 @@ impl Period {
         }
     }
 }
-
-#[cfg(test)]
-mod tests {
-    use super::*;
-
-    /// The greatest numerator.
-    const MOST: u128 = 99_999_999_999_999_999_999;
-
-    /// Numerators, denominators, and whether they make a period.
-    const PERIODS: [(u128, u128, bool); 8] = [
-        (1, 0, false),
-        (0, 1, false),
-        (1, 1, true),
-        (999_999, 1_000_000, false),
-        (1_000_000, 1_000_000, true),
-        (MOST, 1, true),
-        (MOST + 1, 1, false),
-        (MOST, MOST, true),
-    ];
-
-    #[test]
-    fn a_period_is_at_least_one_nanosecond_and_below_its_limit(rt: HostRuntime) {
-        for &(num, den, is_period) in &PERIODS {
-            assert_eq!(rt; Period::new(num, den).is_some(), is_period, "{num} / {den}");
-        }
-    }
-}

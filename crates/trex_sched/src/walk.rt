@@ -168,6 +168,3 @@ fn first_of(chain: &ChainSpec, core: u64, cores: u64, duration: u64) -> Cursor
         },
     }
 }
-
-#[cfg(test)]
-mod tests;

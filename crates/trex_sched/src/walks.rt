@@ -193,6 +193,3 @@ fn replace_least(heads: &mut BinaryHeap<Reverse<Head>>, head: Head)
     let mut least = heads.peek_mut().unwrap();
     *least = Reverse(head);
 }
-
-#[cfg(test)]
-mod tests;

@@ -1,13 +1,12 @@
 // Each packet's time, stream after stream, on each number of cores. The times follow from the sections "Times", "Modes" and "Chains" of
-// docs/MEANING.md: they were computed in Python with whole numbers, and not by this crate.
+// docs/MEANING.md: they were computed in Python with whole numbers, and not by trex_sched.
 
-ghost use Rattle.std.specs.Prelude.{◌≤◌, ◌^◌};
+ghost use Rattle.std.specs.Prelude.{◌<◌, ◌≤◌, ◌^◌};
 ghost use Rattle.trex_sched.specs.Chain.{chain_of, IsChain};
 
-use super::Walk;
-use crate::{ChainSpec, Leg, Mode, Period};
 use std::process::Abort;
 use std::test::Fail;
+use trex_sched::{ChainSpec, Leg, Mode, Period, Slot, Walk};
 
 /// A burst of 70 packets each 10 / 3 ns, 2 ns after what is before it.
 const BURST: [u64; 210] = [
@@ -55,6 +54,49 @@ const ENDLESS_BURSTS: [u64; 170] = [
     193, 195, 196, 197, 198, 200, 201, 202, 203, 205, 206, 207, 208, 210, 211, 212, 213, 215, 216,
 ];
 
+/// A core's packet stands at the time of its number in its stream.
+fn is_due(rt: &impl Abort, slot: &Slot, core: u32, cores: u32, times: &[&[u64]])
+    requires { 0 < cores }
+{
+    let time = times
+        .get(slot.stream as usize)
+        .and_then(|stream| stream.get(slot.number as usize));
+    assert_eq!(rt; time, Some(&slot.time), "{core} of {cores}");
+    assert_eq!(rt; slot.number % u64::from(cores), u64::from(core));
+}
+
+/// A core sends packets at their streams' times, later ones later, and at most `all`. Answers how many.
+fn sent_by(
+    rt: &impl Abort,
+    chain: &ChainSpec,
+    core: u32,
+    cores: u32,
+    duration: u64,
+    times: &[&[u64]],
+    all: usize,
+) -> usize
+    requires chain { IsChain (chain_of chain.now) }
+    requires core { core < cores }
+    requires cores { cores ≤ 64 }
+    requires duration { duration ≤ 10 ^ 18 }
+{
+    let mut sent = 0usize;
+    let mut last = None;
+    let mut walk = Walk::start(chain, core, cores, duration);
+    for _ in 0..all {
+        let Some(slot) = walk.peek() else {
+            break;
+        };
+        is_due(rt, &slot, core, cores, times);
+        assert!(rt; last < Some(slot.time));
+        last = Some(slot.time);
+        sent = sent.saturating_add(1);
+        walk.advance();
+    }
+    assert!(rt; walk.peek().is_none());
+    sent
+}
+
 /// On each number of cores, core after core sends the packets whose numbers leave it as the remainder, later ones later, at their
 /// streams' times, and all cores together send all of them.
 fn sends_at(rt: &impl Abort, chain: &ChainSpec, duration: u64, times: &[&[u64]], all: usize)
@@ -64,23 +106,8 @@ fn sends_at(rt: &impl Abort, chain: &ChainSpec, duration: u64, times: &[&[u64]],
     for cores in 1..65 {
         let mut sent = 0usize;
         for core in 0..cores {
-            let mut walk = Walk::start(chain, core, cores, duration);
-            let mut last = None;
-            for _ in 0..all {
-                let Some(slot) = walk.peek() else {
-                    break;
-                };
-                let time = times
-                    .get(slot.stream as usize)
-                    .and_then(|stream| stream.get(slot.number as usize));
-                assert_eq!(rt; time, Some(&slot.time), "{core} of {cores}");
-                assert_eq!(rt; slot.number % u64::from(cores), u64::from(core));
-                assert!(rt; last < Some(slot.time));
-                last = Some(slot.time);
-                sent = sent.saturating_add(1);
-                walk.advance();
-            }
-            assert!(rt; walk.peek().is_none());
+            let more = sent_by(rt, chain, core, cores, duration, times, all);
+            sent = sent.saturating_add(more);
         }
         assert_eq!(rt; sent, all, "{cores}");
     }

@@ -3,7 +3,6 @@
 ghost use Rattle.std.specs.Prelude.{◌≡◌, ◌≤◌, [], ◌∷◌, IfOk};
 ghost use Rattle.trex_crew.specs.Crews.{works_of};
 
-use crate::{Crew, Gate, ListGate, Open};
 use std::alloc::Global;
 use std::marker::Model;
 use std::sync::Arc;
@@ -12,6 +11,7 @@ use std::sync::atomic::Ordering::SeqCst;
 use std::test::Fail;
 use std::thread::{Threads, yield_now};
 use trex_claims::{CountingPiece, Piece};
+use trex_crew::{Crew, ListGate, Open};
 use trex_io::Memory;
 
 /// A crew of three works that took no turn.

@@ -5,8 +5,8 @@ ghost use Rattle.trex_claims.specs.Views.{IsFirst, IsFull};
 ghost use Rattle.trex_claims.specs.Moves.{opening_view, state_at, HoldsNone};
 ghost use Rattle.trex_claims.specs.Boards.{board_id, cores_of};
 
-use crate::{Board, CountingPiece, Piece, Seat};
 use std::test::Fail;
+use trex_claims::{Board, CountingPiece, Piece, Seat};
 
 /// Three pieces are lent to a new board, after 0, 4 and 9 turns.
 fn lend_three(board: &Board<CountingPiece>, seat: &mut Seat<CountingPiece>)

@@ -1,12 +1,51 @@
-// The merge over a feed of the test, and the laws called once.
+// The order of packets, the merge over a feed of the test, and the laws called once.
 
 ghost use Rattle.std.specs.Prelude.{[], map};
 ghost use Rattle.trex_merge.specs.Frames.{frame_of};
 
-use crate::{
+use trex_merge::{
     Feed, Head, Key, Mill, Next, any_events, events_keep_the_mill, events_keep_the_shares,
-    frames_follow, shares_are_all, what_comes_next,
+    frames_follow, is_before, least_goes_first, order_is_unique, shares_are_all, what_comes_next,
 };
+
+/// The keys of packets, in order: time, stream and number.
+const RISING: [(u64, u32, u64); 5] = [
+    (1, 0, 9),
+    (1, 1, 0),
+    (1, 1, 7),
+    (2, 0, 0),
+    (1_000_000_000_000_000_000, 4_095, 3),
+];
+
+/// The key of a time, a stream and a number.
+fn key(&(time, stream, number): &(u64, u32, u64)) -> Key {
+    Key {
+        time,
+        stream,
+        number,
+    }
+}
+
+#[test]
+fn time_goes_before_stream_and_stream_before_number(rt: HostRuntime) {
+    for (i, a) in RISING.iter().enumerate() {
+        for (j, b) in RISING.iter().enumerate() {
+            assert_eq!(rt; is_before(&key(a), &key(b)), i < j);
+        }
+    }
+}
+
+#[test]
+fn the_laws_are_called(_rt: HostRuntime) {
+    order_is_unique::<Key>();
+    least_goes_first::<Key>();
+    any_events();
+    events_keep_the_mill();
+    events_keep_the_shares();
+    what_comes_next();
+    shares_are_all();
+    frames_follow::<Key>();
+}
 
 /// A feed of packets that wait, and of packets that never come.
 #[derive(Drop)]
@@ -45,12 +84,6 @@ fn packet(time: u64, stream: u32, number: u64) -> Head<'static> {
 
 #[test]
 fn packets_of_one_time_go_by_stream_and_then_by_number(rt: HostRuntime) {
-    any_events();
-    events_keep_the_mill();
-    events_keep_the_shares();
-    what_comes_next();
-    shares_are_all();
-    frames_follow::<Key>();
     let even = [packet(0, 1, 0), packet(7, 0, 2)];
     let odd = [packet(0, 0, 1), packet(7, 0, 1)];
     let mut lanes = [

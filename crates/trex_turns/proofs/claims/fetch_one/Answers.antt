@@ -2,7 +2,7 @@ use Rattle.std.proofs.Common.{◌∙◌, ap}
 use Rattle.trex_claims.specs.Moves.{state_at, round_closed, emptied}
 use Rattle.trex_claims.proofs.CallerLemmas.{state_elsewhere}
 use Rattle.trex_claims.proofs.SlotLemmas.{closed_slot}
-use Rattle.trex_claims.proofs.tests.fetch_one.Goals as goal
+use Rattle.trex_turns.proofs.claims.fetch_one.Goals as goal
 
 pub returns-clause-others : goal.returns-clause-others
 returns-clause-others c other apart =
