@@ -106,7 +106,7 @@ fn the_longest_record_is_measured(rt: HostRuntime) -> Result<(), Fail> {
 
 /// A capture of 40 records of 9,999 bytes, more than the measuring holds at a time.
 fn forty(alloc: Global) -> Result<Vec<u8>, AllocError> {
-    let packet = [0xff; 9_999];
+    let packet = vec![in alloc; 0xff; 9_999]?;
     let mut bytes = Vec::from_slice(alloc, &header())?;
     for number in 0..40 {
         bytes.extend_from_slice(&record_header(number, 9_999))?;
@@ -139,24 +139,29 @@ const WHOLE_SECOND: [u8; 16] = [1, 0, 0, 0, 0x00, 0xca, 0x9a, 0x3b, 0, 0, 0, 0, 
 
 const TOO_LONG: [u8; 16] = [1, 0, 0, 0, 0, 0, 0, 0, 1, 0, 4, 0, 1, 0, 4, 0];
 
-/// A record header behind 40 records, and the fault of it.
-const FAULTY: [([u8; 16], CaptureFault); 2] = [
-    (WHOLE_SECOND, CaptureFault::BadFraction { number: 41 }),
-    (TOO_LONG, CaptureFault::BadLength { number: 41 }),
+/// A record header behind 40 records, the fault of it, and how many bytes a call gives.
+const FAULTY: [(&[u8; 16], CaptureFault, usize); 4] = [
+    (&WHOLE_SECOND, FRACTION, 1),
+    (&WHOLE_SECOND, FRACTION, 65_536),
+    (&TOO_LONG, LENGTH, 4_096),
+    (&TOO_LONG, LENGTH, 65_536),
 ];
+
+const FRACTION: CaptureFault = CaptureFault::BadFraction { number: 41 };
+
+const LENGTH: CaptureFault = CaptureFault::BadLength { number: 41 };
 
 #[test]
 fn a_faulty_header_is_found_at_the_end_of_a_capture(rt: HostRuntime) -> Result<(), Fail> {
-    for &(head, fault) in &FAULTY {
-        for &per_call in &LONG_CALLS {
-            let mut bytes = forty(rt.alloc())?;
-            bytes.extend_from_slice(&head)?;
-            assert_eq!(rt;
-                measured_of(rt.alloc(), bytes, per_call, 0)?.err(),
-                Some(MeasureFault::Bad(fault)),
-                "{per_call} bytes a call"
-            );
-        }
+    for &(head, fault, per_call) in &FAULTY {
+        assert!(rt; 1 <= per_call);
+        let mut bytes = forty(rt.alloc())?;
+        bytes.extend_from_slice(head)?;
+        assert_eq!(rt;
+            measured_of(rt.alloc(), bytes, per_call, 0)?.err(),
+            Some(MeasureFault::Bad(fault)),
+            "{per_call} bytes a call"
+        );
     }
     Ok(())
 }
