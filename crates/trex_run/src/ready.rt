@@ -112,7 +112,8 @@ pub fn prepare<'p>(
     let streams = profile.len();
     let tallies = no_tallies(alloc, profile, streams)?;
     let crew = crew_of(alloc, plan, ask.cores)?;
+    let firsts = vec![in alloc; None; ask.cores as usize]?;
     let piece = Vec::with_capacity(alloc, PIECE)?;
-    let progress = Progress::start(plan, crew, ask.limit, tallies);
+    let progress = Progress::start(plan, crew, ask.limit, firsts, tallies);
     Ok(Ready { progress, piece })
 }

@@ -1,0 +1,115 @@
+//! The packets that wait first at the cores: their keys stand in one list, and one look at it tells what comes next.
+
+ghost use Rattle.std.specs.Prelude.{◌≡◌, ◌-◌, ◌<◌, ℕ, length, map, slice_set};
+ghost use Rattle.trex_merge.specs.declared.next.Next.TheVariants.{Packet as APacket};
+ghost use Rattle.trex_merge.specs.Queues.{next_of};
+ghost use Rattle.trex_merge.specs.Runs.{stands_before};
+ghost use Rattle.trex_run.specs.Firsts.{IsBound, first_at, firsts_of, led};
+ghost use Rattle.trex_run.specs.Ready.{queues_of};
+
+use trex_core::CoreWork;
+use trex_merge::{Feed, Key, Next, is_before};
+
+/// What comes next; and where it is a packet, the least key of those that wait first at all other cores.
+#[derive(Clone, Copy, Drop)]
+pub(crate) struct Coming {
+    pub(crate) next: Next,
+    pub(crate) before: Option<Key>,
+}
+
+/// What is known of some cores: the least key of the packets that wait first, if any, at which core, and the least of the others.
+#[derive(Clone, Copy, Drop)]
+pub(crate) struct Lead {
+    pub(crate) least: Option<Key>,
+    pub(crate) feed: usize,
+    pub(crate) before: Option<Key>,
+}
+
+/// Whether a key stands before another, or there is no other.
+fn stands_before(key: &Key, other: Option<Key>) -> bool
+    ensures { result ≡ stands_before key.now other }
+{
+    match other {
+        Some(other) => is_before(key, &other),
+        None => true,
+    }
+}
+
+/// The same with one core more.
+fn led(lead: Lead, key: Key, at: usize) -> Lead
+    ensures { result ≡ led lead key at }
+{
+    if !stands_before(&key, lead.before) {
+        lead
+    } else if stands_before(&key, lead.least) {
+        Lead {
+            least: Some(key),
+            feed: at,
+            before: lead.least,
+        }
+    } else {
+        Lead {
+            least: lead.least,
+            feed: lead.feed,
+            before: Some(key),
+        }
+    }
+}
+
+/// What comes next, where so many packets may still be sent.
+pub(crate) fn look<F: Feed>(left: u64, feeds: &[F], firsts: &[Option<Key>]) -> Coming
+    requires firsts { firsts.now ≡ firsts_of (map F.queue feeds.now) }
+    ensures next { result.next ≡ next_of left (map F.queue feeds.now) }
+    ensures bound { IsBound result.next result.before (map F.queue feeds.now) }
+{
+    if left == 0 {
+        return Coming {
+            next: Next::End,
+            before: None,
+        };
+    }
+    let mut lead = Lead {
+        least: None,
+        feed: 0,
+        before: None,
+    };
+    for (at, first) in firsts.iter().enumerate() {
+        match *first {
+            Some(key) => lead = led(lead, key, at),
+            None => {
+                if !feeds[at].finished() {
+                    return Coming {
+                        next: Next::Need { core: at },
+                        before: None,
+                    };
+                }
+            }
+        }
+    }
+    Coming {
+        next: match lead.least {
+            Some(_) => Next::Packet { feed: lead.feed },
+            None => Next::End,
+        },
+        before: lead.before,
+    }
+}
+
+/// Reads anew which packet waits first at a core.
+pub(crate) fn read_first(works: &[CoreWork<'_>], feed: usize, firsts: &mut [Option<Key>])
+    requires feed { feed < length works.now }
+    requires firsts { length firsts.old ≡ length works.now }
+    ensures { firsts.new ≡ slice_set firsts.old feed (first_at feed (queues_of works.now)) }
+{
+    firsts[feed] = works[feed].first_key();
+}
+
+/// Reads anew which packets wait first at all cores.
+pub(crate) fn read_firsts(works: &[CoreWork<'_>], firsts: &mut [Option<Key>])
+    requires { length firsts.old ≡ length works.now }
+    ensures { firsts.new ≡ firsts_of (queues_of works.now) }
+{
+    for at in 0..works.len() {
+        firsts[at] = works[at].first_key();
+    }
+}
