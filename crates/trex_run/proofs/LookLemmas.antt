@@ -1,6 +1,7 @@
 -- One look at the packets that wait first at the cores.
-use Rattle.std.proofs.Common.{◌≡◌, ℕ, zero, suc, ◌+◌, ◌<◌, ◌≤◌, ◌⊎◌, inl, inr, ◌&&◌, not, Bool, true, false, cond, Option, None, Some, List, [], ◌∷◌, IsTrue, add-one, drop, get_or, length, map, refl, sym, ap, ◌∙◌, subst, arith}
+use Rattle.std.proofs.Common.{◌≡◌, ℕ, zero, suc, ◌+◌, ◌<◌, ◌≤◌, ◌⊎◌, inl, inr, ◌&&◌, not, Bool, true, false, cond, Option, None, Some, List, [], ◌∷◌, ◌++◌, IsTrue, add-one, drop, get_or, length, map, refl, set, sym, take, ap, ◌∙◌, subst, arith}
 use Rattle.std.proofs.lemmas.Bool.{cases_lt, false≢true}
+use Rattle.std.proofs.lemmas.List.{length-map, length-set, take_all, take_more_set}
 use Rattle.std.proofs.Math.Seq.{drop-cons}
 use Rattle.std.specs.List.{slice_get}
 use Rattle.std.specs.Option.{option_map}
@@ -11,12 +12,13 @@ use Rattle.trex_merge.specs.declared.place.Place.{Place}
 use Rattle.trex_merge.specs.Frames.{Frame, key_of}
 use Rattle.trex_merge.specs.Heads.{earlier_of, head_at, least_from}
 use Rattle.trex_merge.specs.Order.{is_before}
-use Rattle.trex_merge.specs.Queues.{Queue, all_waiting, is_finished, is_needy, is_none_left, needy_from, next_among, next_of}
+use Rattle.trex_merge.specs.Queues.{Queue, all_waiting, at_place, is_finished, is_needy, is_none_left, needy_from, next_among, next_of}
 use Rattle.trex_merge.specs.Runs.{IsLeastElsewhere, StandsNotBefore, stands_before}
 use Rattle.trex_merge.proofs.FeedLemmas.{StandsAt, earlier_none, feed_passed}
 use Rattle.trex_merge.proofs.KeyLemmas.{before_between, before_trans, not_before_itself, not_both}
+use Rattle.trex_run.proofs.ListLemmas.{drop_get, take-next}
 use Rattle.trex_run.specs.declared.firsts.Lead.{Lead}
-use Rattle.trex_run.specs.Firsts.{first_of, firsts_of, led}
+use Rattle.trex_run.specs.Firsts.{first_at, first_of, firsts_of, led}
 
 -- ---- a key and another, or none
 
@@ -89,30 +91,39 @@ none_ahead queues at lead none ahead = record {
 }
 
 -- at one core more a packet waits first
-pub led_ahead : (queues : List Queue) (at : ℕ) (lead : Lead) (key : Key) (frame : Frame) (rest : List Frame) → slice_get (all_waiting queues) at ≡ Some (frame ∷ rest)
-    → key ≡ key_of frame → IsAhead at lead queues → IsAhead (at + 1) (led lead key at) queues
-led_ahead queues at lead key frame rest there is ahead =
-    let one : Lead = record { least = Some key; feed = at; before = lead.least } in
-    let two : Lead = record { least = lead.least; feed = lead.feed; before = Some key } in
-    let mine : WaitsBelow (at + 1) at key queues = record { frame = frame; rest = rest; lower = omega arith; there = there; is = is } in
-    let here : (core : ℕ) (f : Frame) (r : List Frame) → core ≡ at → slice_get (all_waiting queues) core ≡ Some (f ∷ r) → key_of f ≡ key = λ core f r e waits.
-    let both : frame ∷ rest ≡ f ∷ r = same_frames (sym there ∙ ap (slice_get (all_waiting queues)) (sym e) ∙ waits) in
-    let same : frame ≡ f = cc in
-    ap key_of (sym same) ∙ sym is in
-    let old : (core : ℕ) → ¬ (core < at) → core < at + 1 → core ≡ at = λ core not_so so. omega arith in
-    elim (stands_before key lead.before) as (λ t. stands_before key lead.before ≡ t → IsAhead (at + 1) (cond t (cond (stands_before key lead.least) one two) lead) queues) [
-      | false ↦ λ not_so. record {
-        others = λ core f r lower waits. elim (cases_lt core at) [
-          | inl before ↦ ahead.others core f r before waits
-          | inr not_before ↦
-              let e : core ≡ at = omega arith in
-              inr (subst (λ (k : Key). StandsNotBefore k lead.before) (sym (here core f r e waits)) (stands_not key lead.before not_so))
-        ];
-        leads = λ k e. later at lead.feed k queues (ahead.leads k e);
-        elsewhere = λ k e. let w = ahead.elsewhere k e in (w.0, w.1, later at w.0 k queues w.2);
-        order = ahead.order;
-      }
-      | true ↦ λ so. elim (stands_before key lead.least) as (λ t. stands_before key lead.least ≡ t → IsAhead (at + 1) (cond t one two) queues) [
+module _ (queues : List Queue) (at : ℕ) (lead : Lead) (key : Key) (frame : Frame) (rest : List Frame) (there : slice_get (all_waiting queues) at ≡ Some (frame ∷ rest))
+    (is : key ≡ key_of frame) (ahead : IsAhead at lead queues) where
+  here : (core : ℕ) (f : Frame) (r : List Frame) → core ≡ at → slice_get (all_waiting queues) core ≡ Some (f ∷ r) → key_of f ≡ key
+  here core f r e waits =
+      let both : frame ∷ rest ≡ f ∷ r = same_frames (sym there ∙ ap (slice_get (all_waiting queues)) (sym e) ∙ waits) in
+      let same : frame ≡ f = cc in
+      ap key_of (sym same) ∙ sym is
+
+  mine : (k : Key) → Some key ≡ Some k → WaitsBelow (at + 1) at k queues
+  mine k e =
+      let same : key ≡ k = cc in
+      record { frame = frame; rest = rest; lower = omega arith; there = there; is = sym same ∙ is }
+
+  -- which doesn't stand before the least of the others
+  pub still_ahead : stands_before key lead.before ≡ false → IsAhead (at + 1) lead queues
+  still_ahead behind = record {
+    others = λ core f r lower waits. elim (cases_lt core at) [
+      | inl before ↦ ahead.others core f r before waits
+      | inr not_before ↦
+          let e : core ≡ at = omega arith in
+          inr (subst (λ (k : Key). StandsNotBefore k lead.before) (sym (here core f r e waits)) (stands_not key lead.before behind))
+    ];
+    leads = λ k e. later at lead.feed k queues (ahead.leads k e);
+    elsewhere = λ k e. let w = ahead.elsewhere k e in (w.0, w.1, later at w.0 k queues w.2);
+    order = ahead.order;
+  }
+
+  -- which stands before it
+  pub led_ahead : stands_before key lead.before ≡ true → IsAhead (at + 1) (led lead key at) queues
+  led_ahead so =
+      let one : Lead = record { least = Some key; feed = at; before = lead.least } in
+      let two : Lead = record { least = lead.least; feed = lead.feed; before = Some key } in
+      elim (stands_before key lead.least) as (λ t. stands_before key lead.least ≡ t → IsAhead (at + 1) (cond t one two) queues) [
         | true ↦ λ first. record {
           others = λ core f r lower waits. elim (cases_lt core at) [
             | inl before ↦ elim (ahead.others core f r before waits) [
@@ -121,7 +132,7 @@ led_ahead queues at lead key frame rest there is ahead =
             ]
             | inr not_before ↦ let e : core ≡ at = omega arith in inl (e, ap (λ (k : Key). Some k) (sym (here core f r e waits)))
           ];
-          leads = λ k e. let same : key ≡ k = cc in subst (λ (x : Key). WaitsBelow (at + 1) at x queues) same mine;
+          leads = mine;
           elsewhere = λ k e.
               let w = ahead.leads k e in
               let lower = w.lower in
@@ -140,15 +151,13 @@ led_ahead queues at lead key frame rest there is ahead =
           ];
           leads = λ k e. later at lead.feed k queues (ahead.leads k e);
           elsewhere = λ k e.
-              let same : key ≡ k = cc in
               let first = has_first key lead.least second in
               let w = ahead.leads first.0 first.1 in
               let lower = w.lower in
-              (at, (λ e'. absurd (omega (arith, e', lower))), subst (λ (x : Key). WaitsBelow (at + 1) at x queues) same mine);
+              (at, (λ e'. absurd (omega (arith, e', lower))), mine k e);
           order = λ k e. let same : key ≡ k = cc in subst (λ (x : Key). HasFirst x lead.least) same (has_first key lead.least second);
         }
       ] refl
-    ] refl
 
 -- ---- the place of the least
 
@@ -171,19 +180,21 @@ goes key at feed (Some first) so =
     let old : Place = record { key = first; feed = feed } in
     ap (λ t. cond t (Some mine) (Some old)) (sym so)
 
-pub led_place : (queues : List Queue) (at : ℕ) (lead : Lead) (key : Key) → IsAhead at lead queues
+still_place : (queues : List Queue) (at : ℕ) (lead : Lead) (key : Key) → IsAhead at lead queues → stands_before key lead.before ≡ false
+    → place_of lead.least lead.feed ≡ earlier_of (place_of lead.least lead.feed) (Some (record { key = key; feed = at }))
+still_place queues at lead key ahead behind =
+    stays key at lead.feed lead.least (not_before_first key lead.least lead.before ahead.order (stands_not key lead.before behind))
+
+led_place : (at : ℕ) (lead : Lead) (key : Key)
     → place_of (led lead key at).least (led lead key at).feed ≡ earlier_of (place_of lead.least lead.feed) (Some (record { key = key; feed = at }))
-led_place queues at lead key ahead =
+led_place at lead key =
     let one : Lead = record { least = Some key; feed = at; before = lead.least } in
     let two : Lead = record { least = lead.least; feed = lead.feed; before = Some key } in
     let after : Option Place = earlier_of (place_of lead.least lead.feed) (Some (record { key = key; feed = at })) in
     let place : Lead → Option Place = λ (l : Lead). place_of l.least l.feed in
-    elim (stands_before key lead.before) as (λ t. stands_before key lead.before ≡ t → place (cond t (cond (stands_before key lead.least) one two) lead) ≡ after) [
-      | false ↦ λ not_so. stays key at lead.feed lead.least (not_before_first key lead.least lead.before ahead.order (stands_not key lead.before not_so))
-      | true ↦ λ so. elim (stands_before key lead.least) as (λ t. stands_before key lead.least ≡ t → place (cond t one two) ≡ after) [
-        | true ↦ λ first. goes key at lead.feed lead.least first
-        | false ↦ λ second. stays key at lead.feed lead.least (stands_not key lead.least second)
-      ] refl
+    elim (stands_before key lead.least) as (λ t. stands_before key lead.least ≡ t → place (cond t one two) ≡ after) [
+      | true ↦ λ first. goes key at lead.feed lead.least first
+      | false ↦ λ second. stays key at lead.feed lead.least (stands_not key lead.least second)
     ] refl
 
 -- ---- the feeds
@@ -201,11 +212,21 @@ module _ {T : Type 0} (queue : T → Queue) where
     pub there : slice_get (all_waiting (map queue feeds)) at ≡ Some (queue feed).waiting
     pub shows : first ≡ first_of (queue feed)
 
-  pub is_there : (feeds : List T) (at : ℕ) (first : Option Key) → at < length feeds → first ≡ get_or (firsts_of (map queue feeds)) at first → IsThere feeds at first
-  is_there [] at first within is = absurd (omega arith)
-  is_there (feed ∷ feeds) zero first within is = record { feed = feed; is = refl; there = refl; shows = is }
-  is_there (feed ∷ feeds) (suc at) first within is =
-      let t = is_there feeds at first (omega arith) is in record { feed = t.feed; is = t.is; there = t.there; shows = t.shows }
+  there_at : (feeds : List T) (at : ℕ) (first : Option Key) → at < length feeds → get_or (firsts_of (map queue feeds)) at None ≡ first → IsThere feeds at first
+  there_at [] at first within is = absurd (omega arith)
+  there_at (feed ∷ feeds) zero first within is = record { feed = feed; is = refl; there = refl; shows = sym is }
+  there_at (feed ∷ feeds) (suc at) first within is =
+      let t = there_at feeds at first (omega arith) is in record { feed = t.feed; is = t.is; there = t.there; shows = t.shows }
+
+  -- there are as many keys
+  pub as_long : (feeds : List T) (firsts : List (Option Key)) → firsts ≡ firsts_of (map queue feeds) → length firsts ≡ length feeds
+  as_long feeds firsts are = ap length are ∙ length-map (map queue feeds) first_of ∙ length-map feeds queue
+
+  is_there : (feeds : List T) (firsts : List (Option Key)) (at : ℕ) (first : Option Key) → firsts ≡ firsts_of (map queue feeds) → at < length firsts
+      → get_or firsts at None ≡ first → IsThere feeds at first
+  is_there feeds firsts at first are within is =
+      let long = as_long feeds firsts are in
+      there_at feeds at first (omega (arith, long, within)) (ap (λ (l : List (Option Key)). get_or l at None) (sym are) ∙ is)
 
   -- the first that waits
   shown : (waiting : List Frame) (key : Key) → Some key ≡ option_map key_of (slice_get waiting 0) → (frame : Frame) × (rest : List Frame) × (waiting ≡ frame ∷ rest) × (key ≡ key_of frame)
@@ -217,21 +238,62 @@ module _ {T : Type 0} (queue : T → Queue) where
   shown_none (frame ∷ rest) is = cc
 
   -- a packet waits first at one more
-  pub sees_packet : (feeds : List T) (at : ℕ) (lead : Lead) (key : Key) → at < length feeds → Some key ≡ get_or (firsts_of (map queue feeds)) at (Some key)
-      → HasSeen feeds at lead → HasSeen feeds (at + 1) (led lead key at)
-  sees_packet feeds at lead key within is seen =
-      let t = is_there feeds at (Some key) within is in
+  pub record IsSeen (feeds : List T) (at : ℕ) (key : Key) : Type 0 where
+    pub feed : T
+    pub frame : Frame
+    pub rest : List Frame
+    pub within : at < length feeds
+    pub is : feed ≡ get_or feeds at feed
+    pub served : is_needy (queue feed) ≡ false
+    pub head : head_at key_of at (queue feed).waiting ≡ Some (record { key = key; feed = at })
+    pub there : slice_get (all_waiting (map queue feeds)) at ≡ Some (frame ∷ rest)
+    pub key_is : key ≡ key_of frame
+
+  is_seen : (feeds : List T) (firsts : List (Option Key)) (at : ℕ) (key : Key) → firsts ≡ firsts_of (map queue feeds) → at < length firsts
+      → get_or firsts at None ≡ Some key → IsSeen feeds at key
+  is_seen feeds firsts at key are within is =
+      let t = is_there feeds firsts at (Some key) are within is in
+      let long = as_long feeds firsts are in
       let q = queue t.feed in
       let w = shown q.waiting key t.shows in
-      let served : is_needy q ≡ false = ap (λ (l : List Frame). is_none_left l && not (is_none_left q.coming)) w.2 in
-      let head : head_at key_of at q.waiting ≡ Some (record { key = key; feed = at }) =
-      ap (head_at key_of at) w.2 ∙ ap (λ (k : Key). Some (let p : Place = record { key = k; feed = at } in p)) (sym w.3) in
       record {
-        stands = feed_passed queue feeds at t.feed (place_of lead.least lead.feed) (place_of (led lead key at).least (led lead key at).feed) (needy_from 0 (map queue feeds))
-            (least_from key_of 0 (all_waiting (map queue feeds))) within t.is served
-            (led_place (map queue feeds) at lead key seen.ahead ∙ ap (earlier_of (place_of lead.least lead.feed)) (sym head)) seen.stands;
-        ahead = led_ahead (map queue feeds) at lead key w.0 w.1 (t.there ∙ ap Some w.2) w.3 seen.ahead;
+        feed = t.feed;
+        frame = w.0;
+        rest = w.1;
+        within = omega (arith, long, within);
+        is = t.is;
+        served = ap (λ (l : List Frame). is_none_left l && not (is_none_left q.coming)) w.2;
+        head = ap (head_at key_of at) w.2 ∙ ap (λ (k : Key). Some (let p : Place = record { key = k; feed = at } in p)) (sym w.3);
+        there = t.there ∙ ap Some w.2;
+        key_is = w.3;
       }
+
+  module _ (feeds : List T) (firsts : List (Option Key)) (at : ℕ) (lead : Lead) (key : Key) (are : firsts ≡ firsts_of (map queue feeds)) (within : at < length firsts)
+      (is : get_or firsts at None ≡ Some key) (seen : HasSeen feeds at lead) where
+    with_place : (now : Option Place) → now ≡ earlier_of (place_of lead.least lead.feed) (Some (record { key = key; feed = at }))
+        → StandsAt queue feeds (at + 1) now (needy_from 0 (map queue feeds)) (least_from key_of 0 (all_waiting (map queue feeds)))
+    with_place now is_now =
+        let t = is_seen feeds firsts at key are within is in
+        feed_passed queue feeds at t.feed (place_of lead.least lead.feed) now (needy_from 0 (map queue feeds)) (least_from key_of 0 (all_waiting (map queue feeds)))
+        t.within t.is t.served (is_now ∙ ap (earlier_of (place_of lead.least lead.feed)) (sym t.head)) seen.stands
+
+    -- which doesn't stand before the least of the others
+    pub sees_later : stands_before key lead.before ≡ false → HasSeen feeds (at + 1) lead
+    sees_later behind =
+        let t = is_seen feeds firsts at key are within is in
+        record {
+          stands = with_place (place_of lead.least lead.feed) (still_place (map queue feeds) at lead key seen.ahead behind);
+          ahead = still_ahead (map queue feeds) at lead key t.frame t.rest t.there t.key_is seen.ahead behind;
+        }
+
+    -- which stands before it
+    pub sees_earlier : stands_before key lead.before ≡ true → HasSeen feeds (at + 1) (led lead key at)
+    sees_earlier so =
+        let t = is_seen feeds firsts at key are within is in
+        record {
+          stands = with_place (place_of (led lead key at).least (led lead key at).feed) (led_place at lead key);
+          ahead = led_ahead (map queue feeds) at lead key t.frame t.rest t.there t.key_is seen.ahead so;
+        }
 
   same_there : (feeds : List T) (at : ℕ) (a b : T) → at < length feeds → a ≡ get_or feeds at a → b ≡ get_or feeds at b → a ≡ b
   same_there [] at a b within is_a is_b = absurd (omega arith)
@@ -239,10 +301,12 @@ module _ {T : Type 0} (queue : T → Queue) where
   same_there (feed ∷ feeds) (suc at) a b within is_a is_b = same_there feeds at a b (omega arith) is_a is_b
 
   -- one more is finished
-  pub sees_finished : (feeds : List T) (at : ℕ) (lead : Lead) (feed : T) → at < length feeds → feed ≡ get_or feeds at feed → None ≡ get_or (firsts_of (map queue feeds)) at None
-      → is_finished (queue feed) ≡ true → HasSeen feeds at lead → HasSeen feeds (at + 1) lead
-  sees_finished feeds at lead feed within is none finished seen =
-      let t = is_there feeds at None within none in
+  pub sees_finished : (feeds : List T) (firsts : List (Option Key)) (at : ℕ) (lead : Lead) (feed : T) → firsts ≡ firsts_of (map queue feeds) → at < length firsts
+      → get_or firsts at None ≡ None → feed ≡ get_or feeds at feed → is_finished (queue feed) ≡ true → HasSeen feeds at lead → HasSeen feeds (at + 1) lead
+  sees_finished feeds firsts at lead feed are within' none is finished seen =
+      let t = is_there feeds firsts at None are within' none in
+      let long = as_long feeds firsts are in
+      let within : at < length feeds = omega (arith, long, within') in
       let same : t.feed ≡ feed = same_there feeds at t.feed feed within t.is is in
       let empty : (queue feed).waiting ≡ [] = ap (λ (f : T). (queue f).waiting) (sym same) ∙ shown_none (queue t.feed).waiting t.shows in
       let head : head_at key_of at (queue feed).waiting ≡ None = ap (head_at key_of at) empty in
@@ -259,10 +323,12 @@ module _ {T : Type 0} (queue : T → Queue) where
       served true true finished = refl
 
   -- one more has to be waited for
-  pub sees_needy : (left : ℕ) (feeds : List T) (at : ℕ) (lead : Lead) (feed : T) → at < length feeds → feed ≡ get_or feeds at feed → None ≡ get_or (firsts_of (map queue feeds)) at None
-      → is_finished (queue feed) ≡ false → 0 < left → HasSeen feeds at lead → Need at ≡ next_of left (map queue feeds)
-  sees_needy left feeds at lead feed within is none unfinished some seen =
-      let t = is_there feeds at None within none in
+  pub sees_needy : (left : ℕ) (feeds : List T) (firsts : List (Option Key)) (at : ℕ) (lead : Lead) (feed : T) → firsts ≡ firsts_of (map queue feeds) → at < length firsts
+      → get_or firsts at None ≡ None → feed ≡ get_or feeds at feed → is_finished (queue feed) ≡ false → 0 < left → HasSeen feeds at lead → Need at ≡ next_of left (map queue feeds)
+  sees_needy left feeds firsts at lead feed are within' none is unfinished some seen =
+      let t = is_there feeds firsts at None are within' none in
+      let long = as_long feeds firsts are in
+      let within : at < length feeds = omega (arith, long, within') in
       let same : t.feed ≡ feed = same_there feeds at t.feed feed within t.is is in
       let empty : (queue feed).waiting ≡ [] = ap (λ (f : T). (queue f).waiting) (sym same) ∙ shown_none (queue t.feed).waiting t.shows in
       let front : drop at feeds ≡ feed ∷ drop (suc at) feeds = drop-cons feeds at feed within ∙ ap (λ (x : T). x ∷ drop (suc at) feeds) (sym is) in
@@ -323,3 +389,50 @@ module _ {T : Type 0} (queue : T → Queue) where
       order = λ key is. cc;
     };
   }
+
+-- ---- keys are read anew
+
+-- one core's queue is changed
+pub read_after : (change : Queue → Queue) (at : ℕ) (queues after : List Queue) (old new : List (Option Key)) → old ≡ firsts_of queues → after ≡ at_place change at queues
+    → new ≡ set old at (first_at at after) → new ≡ firsts_of after
+read_after change at queues after old new were is now =
+    now ∙ ap (λ (l : List (Option Key)). set l at (first_at at after)) were ∙ ap (λ (l : List Queue). set (firsts_of queues) at (first_at at l)) is
+    ∙ changed at queues ∙ ap firsts_of (sym is)
+  where
+    changed : (at : ℕ) (queues : List Queue) → set (firsts_of queues) at (first_at at (at_place change at queues)) ≡ firsts_of (at_place change at queues)
+    changed at [] = refl
+    changed zero (queue ∷ queues) = refl
+    changed (suc at) (queue ∷ queues) = ap (λ (l : List (Option Key)). first_of queue ∷ l) (changed at queues)
+
+module _ {T : Type 0} (queue : T → Queue) where
+  pub first_there : (feeds : List T) (at : ℕ) (feed : T) → at < length feeds → feed ≡ get_or feeds at feed → first_at at (map queue feeds) ≡ first_of (queue feed)
+  first_there [] at feed within is = absurd (omega arith)
+  first_there (f ∷ feeds) zero feed within is = ap (λ (x : T). first_of (queue x)) (sym is)
+  first_there (f ∷ feeds) (suc at) feed within is = first_there feeds at feed (omega arith) is
+
+  key_there : (feeds : List T) (at : ℕ) (feed : T) → at < length feeds → feed ≡ get_or feeds at feed → slice_get (firsts_of (map queue feeds)) at ≡ Some (first_of (queue feed))
+  key_there [] at feed within is = absurd (omega arith)
+  key_there (f ∷ feeds) zero feed within is = ap (λ (x : T). Some (first_of (queue x))) (sym is)
+  key_there (f ∷ feeds) (suc at) feed within is = key_there feeds at feed (omega arith) is
+
+  -- The keys below a place are read.
+  pub record HasRead (feeds : List T) (at : ℕ) (firsts : List (Option Key)) : Type 0 where
+    pub places : length firsts ≡ length feeds
+    pub read : take at firsts ≡ take at (firsts_of (map queue feeds))
+
+  pub reads_one : (feeds : List T) (at : ℕ) (feed : T) (firsts : List (Option Key)) (key : Option Key) → at < length feeds → feed ≡ get_or feeds at feed
+      → key ≡ first_of (queue feed) → HasRead feeds at firsts → HasRead feeds (at + 1) (set firsts at key)
+  reads_one feeds at feed firsts key within is shows has =
+      let places = has.places in
+      let all = firsts_of (map queue feeds) in
+      record {
+        places = length-set firsts at key ∙ places;
+        read = take_more_set firsts at key (omega (arith, places)) ∙ ap (λ (l : List (Option Key)). l ++ key ∷ []) has.read
+            ∙ sym (take-next at all key (drop_get at all key (key_there feeds at feed within is ∙ ap (λ k. Some k) (sym shows))));
+      }
+
+  pub has_read : (feeds : List T) (at : ℕ) (firsts : List (Option Key)) → length feeds ≤ at → HasRead feeds at firsts → firsts ≡ firsts_of (map queue feeds)
+  has_read feeds at firsts all has =
+      let places = has.places in
+      let long = as_long queue feeds (firsts_of (map queue feeds)) refl in
+      sym (take_all at firsts (omega (arith, places))) ∙ has.read ∙ take_all at (firsts_of (map queue feeds)) (omega (arith, long))

@@ -26,11 +26,10 @@ firsts_of queues = map first_of queues
 abbrev pub IsBound : Next → Option Key → List Queue → Type 0
 IsBound next before queues = (at : ℕ) → next ≡ Packet at → IsLeastElsewhere at before queues
 
--- Of the packets that wait first at some cores the least, and the least of the others, with the packet of one core more.
+-- Of the packets that wait first at some cores the least, and the least of the others, with the packet of one core more, which stands before
+-- the least of the others, if any.
 abbrev pub led : Lead → Key → ℕ → Lead
 led lead key at =
-    if stands_before key lead.before
-    then (if stands_before key lead.least
-        then record { least = Some key; feed = at; before = lead.least }
-        else record { least = lead.least; feed = lead.feed; before = Some key })
-    else lead
+    if stands_before key lead.least
+    then record { least = Some key; feed = at; before = lead.least }
+    else record { least = lead.least; feed = lead.feed; before = Some key }

@@ -16,7 +16,7 @@ ghost use Rattle.trex_run.specs.Ready.{first_works};
 ghost use Rattle.trex_run.specs.State.{IsCurrent, IsPassed, IsShort, IsStep, ahead, cores_of, packets_reached};
 ghost use Rattle.trex_run.specs.Step.{is_packet, reached};
 
-use crate::firsts::{Coming, look, read_firsts};
+use crate::firsts::{Coming, FirstKeys};
 use crate::pieces::gather;
 use crate::run::run_of;
 use crate::step::{send, send_run, steps_are_events, supply};
@@ -26,7 +26,7 @@ use std::thread::Threads;
 use trex_core::{CoreWork, Plan, plans_rise};
 use trex_crew::{Crew, Gate};
 use trex_io::{Failed, Sink};
-use trex_merge::{Head, Key, Mill, Next};
+use trex_merge::{Head, Mill, Next};
 use trex_report::Tally;
 
 /// How far a run has come: its cores' works, the merge of their packets, and what was counted of each stream. Contracts see it as its plan,
@@ -36,8 +36,7 @@ pub(crate) struct Progress<'p> {
     plan: &'p Plan<'p>,
     crew: Crew<CoreWork<'p>>,
     mill: Mill,
-    // the keys of the packets that wait first at the cores
-    firsts: Vec<Option<Key>>,
+    firsts: FirstKeys,
     coming: Coming,
     tallies: Vec<Tally>,
 }
@@ -67,17 +66,17 @@ impl<'p> Model for Progress<'p> {
         (take (r.mill.sent + packet_ahead r.coming.next) (sequence r.mill.limit (frames_of_plan r.plan.now))))
         × AllByRecursion IsEarly (frames_of_plan r.plan.now)
         × HaveBase r.plan.now.base (works_of r.crew)
-        × (r.firsts.items ≡ firsts_of (queues_of (works_of r.crew)))
+        × (r.firsts ≡ firsts_of (queues_of (works_of r.crew)))
         × IsBound r.coming.next r.coming.before (queues_of (works_of r.crew)) };
 }
 
 impl<'p> Progress<'p> {
-    /// A run before its first step, over a crew whose works haven't made a packet. The list has a place for each core.
+    /// A run before its first step, over a crew whose works haven't made a packet. The keys have a place for each core.
     pub(crate) fn start(
         plan: &'p Plan<'p>,
         crew: Crew<CoreWork<'p>>,
         limit: u64,
-        firsts: Vec<Option<Key>>,
+        firsts: FirstKeys,
         tallies: Vec<Tally>,
     ) -> Progress<'p>
         requires kept { refusal_of plan.now.profile ≡ None }
@@ -87,7 +86,7 @@ impl<'p> Progress<'p> {
         requires some { 0 < length (works_of crew) }
         requires works { works_of crew ≡ first_works plan.now.base (length (works_of crew)) (frames_of_plan plan.now) }
         requires rounds { crew.rounds ≡ 0 }
-        requires firsts { length firsts.items ≡ length (works_of crew) }
+        requires firsts { length firsts ≡ length (works_of crew) }
         requires tallies { tallies.items ≡ tallies_of plan.now.profile [] }
         ensures plan { result.plan ≡ plan.now }
         ensures none { reached result.state ≡ 0 }
@@ -98,8 +97,8 @@ impl<'p> Progress<'p> {
         plans_rise();
         let mill = Mill::new(limit);
         let mut firsts = firsts;
-        read_firsts(crew.works(), &mut firsts);
-        let coming = look(mill.left(), crew.works(), &firsts);
+        firsts.read_all(crew.works());
+        let coming = firsts.look(mill.left(), crew.works());
         Progress {
             plan,
             crew,

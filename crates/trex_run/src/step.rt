@@ -17,18 +17,18 @@ ghost use Rattle.trex_run.specs.Ready.{base_at, marks_of, queues_of};
 ghost use Rattle.trex_run.specs.Rounds.{EnteredAfter};
 ghost use Rattle.trex_run.specs.Step.{is_packet, mill_after, packet_ahead, queues_after, round_from, rounds_after, works_after};
 
-use crate::firsts::{Coming, look, read_first, read_firsts};
+use crate::firsts::{Coming, FirstKeys};
 use crate::run::drop_run;
 use std::thread::Threads;
 use trex_core::CoreWork;
 use trex_crew::{Crew, Gate};
-use trex_merge::{Key, Mill, Next};
+use trex_merge::{Mill, Next};
 
 /// Sends the packet that comes next, if any, and tells what comes then.
 pub(crate) fn send(
     mill: &mut Mill,
     crew: &mut Crew<CoreWork<'_>>,
-    firsts: &mut [Option<Key>],
+    firsts: &mut FirstKeys,
     coming: Coming,
 ) -> Coming
     requires next { coming.next ≡ next_of (mill.old.limit - mill.old.sent) (queues_of (works_of crew.old)) }
@@ -46,8 +46,8 @@ pub(crate) fn send(
     match coming.next {
         Next::Packet { feed } => {
             mill.take(crew.works_mut(), feed);
-            read_first(crew.works(), feed, firsts);
-            look(mill.left(), crew.works(), firsts)
+            firsts.read(crew.works(), feed);
+            firsts.look(mill.left(), crew.works())
         }
         Next::Need { .. } => coming,
         Next::End => coming,
@@ -58,7 +58,7 @@ pub(crate) fn send(
 pub(crate) fn send_run(
     mill: &mut Mill,
     crew: &mut Crew<CoreWork<'_>>,
-    firsts: &mut [Option<Key>],
+    firsts: &mut FirstKeys,
     feed: usize,
     packets: usize,
     bytes: usize,
@@ -79,8 +79,8 @@ pub(crate) fn send_run(
 {
     drop_run(crew.works_mut(), feed, packets, bytes);
     mill.pass(packets as u64);
-    read_first(crew.works(), feed, firsts);
-    look(mill.left(), crew.works(), firsts)
+    firsts.read(crew.works(), feed);
+    firsts.look(mill.left(), crew.works())
 }
 
 /// Makes a round if a core has to be waited for, and tells what comes then.
@@ -88,7 +88,7 @@ pub(crate) fn supply<R: Threads + Sync, G: Gate>(
     rt: &R,
     mill: &Mill,
     crew: &mut Crew<CoreWork<'_>>,
-    firsts: &mut [Option<Key>],
+    firsts: &mut FirstKeys,
     coming: Coming,
     gates: &mut [G],
 ) -> Coming
@@ -107,8 +107,8 @@ pub(crate) fn supply<R: Threads + Sync, G: Gate>(
     match coming.next {
         Next::Need { .. } => {
             crew.round(rt, gates);
-            read_firsts(crew.works(), firsts);
-            look(mill.left(), crew.works(), firsts)
+            firsts.read_all(crew.works());
+            firsts.look(mill.left(), crew.works())
         }
         Next::Packet { .. } => coming,
         Next::End => coming,
