@@ -29,7 +29,7 @@ use Rattle.trex_merge.proofs.QueueLemmas.{packet_is_least}
 use Rattle.trex_run.specs.Ready.{HaveBase, IsReady, base_at, marks_of, queues_of, run_at}
 use Rattle.trex_run.specs.Rounds.{EnteredAfter, HasKeptUp, IsEnoughRounds, TellRounds}
 use Rattle.trex_run.specs.State.{IsPass, IsShort, ahead}
-use Rattle.trex_run.specs.Step.{earlier_key, is_packet, mill_after, packet_ahead, passed, rounds_after, supplied, works_after}
+use Rattle.trex_run.specs.Step.{is_packet, mill_after, packet_ahead, passed, rounds_after, supplied, works_after}
 use Rattle.trex_run.specs.Tallies.{all_counted}
 use Rattle.trex_run.proofs.HeadLemmas.{waits_within}
 use Rattle.trex_run.proofs.BaseLemmas.{base_is}
