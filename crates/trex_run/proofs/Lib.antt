@@ -3,6 +3,7 @@ mod TallyLemmas
 mod CaptureLemmas
 mod MillLemmas
 mod BaseLemmas
+mod LookLemmas
 mod PassLemmas
 pub mod RoundsLemmas
 mod ShareLemmas

@@ -29,7 +29,7 @@ use Rattle.trex_merge.proofs.QueueLemmas.{packet_is_least}
 use Rattle.trex_run.specs.Ready.{HaveBase, IsReady, base_at, marks_of, queues_of, run_at}
 use Rattle.trex_run.specs.Rounds.{EnteredAfter, HasKeptUp, IsEnoughRounds, TellRounds}
 use Rattle.trex_run.specs.State.{IsPass, IsShort, ahead}
-use Rattle.trex_run.specs.Step.{earlier_key, is_packet, mill_after, packet_ahead, passed, rounds_after, supplied, works_after}
+use Rattle.trex_run.specs.Step.{is_packet, mill_after, packet_ahead, passed, rounds_after, supplied, works_after}
 use Rattle.trex_run.specs.Tallies.{all_counted}
 use Rattle.trex_run.proofs.HeadLemmas.{waits_within}
 use Rattle.trex_run.proofs.BaseLemmas.{base_is}
@@ -314,88 +314,7 @@ pub all_small : (frames : List Frame) → AllByRecursion IsShort frames → AllB
 all_small [] short = tt
 all_small (frame ∷ frames) short = (short.0, all_small frames short.1)
 
--- ---- the least key elsewhere
-
--- Of the cores below a place, other than one: a key is the least of their first packets.
-pub record IsLeastBelow (at feed : ℕ) (least : Option Key) (queues : List Queue) : Type 0 where
-  pub others : (core : ℕ) (frame : Frame) (rest : List Frame) → core < at → ¬ (core ≡ feed) → slice_get (all_waiting queues) core ≡ Some (frame ∷ rest) → StandsNotBefore (key_of frame) least
-  pub is_one : (key : Key) → least ≡ Some key → WaitsElsewhere feed key queues
-
-not_before_earlier : (key : Key) (one other : Option Key) → StandsNotBefore key one → StandsNotBefore key (earlier_key one other)
-not_before_earlier key None other stands = absurd stands
-not_before_earlier key (Some a) None stands = stands
-not_before_earlier key (Some a) (Some b) stands =
-    elim (is_before b a) as (λ t. is_before b a ≡ t → StandsNotBefore key (cond t (Some b) (Some a))) [
-      | true ↦ λ ba kb. stands (before_trans key b a kb ba)
-      | false ↦ λ no. stands
-    ] refl
-
-itself_not_before : (key : Key) (one : Option Key) → StandsNotBefore key (earlier_key one (Some key))
-itself_not_before key None = not_before_itself key
-itself_not_before key (Some a) =
-    elim (is_before key a) as (λ t. is_before key a ≡ t → StandsNotBefore key (cond t (Some key) (Some a))) [
-      | true ↦ λ yes. not_before_itself key
-      | false ↦ λ no before. false≢true (sym no ∙ before)
-    ] refl
-
--- the earlier is one of the two
-earlier_is : (one other : Option Key) (key : Key) → earlier_key one other ≡ Some key → (one ≡ Some key) ⊎ (other ≡ Some key)
-earlier_is None other key is = inr is
-earlier_is (Some a) None key is = inl is
-earlier_is (Some a) (Some b) key is =
-    elim (is_before b a) as (λ t. cond t (Some b) (Some a) ≡ Some key → (Some a ≡ Some key) ⊎ (Some b ≡ Some key)) [
-      | true ↦ λ e. inr e
-      | false ↦ λ e. inl e
-    ] is
-
--- what waits at a work
-waits_there : (works : List Work) (at : ℕ) (work : Work) → at < length works → work ≡ get_or works at work → slice_get (all_waiting (queues_of works)) at ≡ Some work.queue.waiting
-waits_there [] at work within is = absurd (omega arith)
-waits_there (w ∷ works) zero work within is = ap (λ (x : Work). Some x.queue.waiting) (sym is)
-waits_there (w ∷ works) (suc at) work within is = waits_there works at work (omega arith) is
-
-first_is : (waiting : List Frame) (key : Key) → option_map key_of (slice_get waiting 0) ≡ Some key → (frame : Frame) × (rest : List Frame) × (waiting ≡ frame ∷ rest) × (key ≡ key_of frame)
-first_is [] key is = cc
-first_is (frame ∷ rest) key is = let same : key_of frame ≡ key = cc in (frame, rest, refl, sym same)
-
-pub least_more : (works : List Work) (at feed : ℕ) (work : Work) (least : Option Key) → at < length works → work ≡ get_or works at work → ¬ (at ≡ feed)
-    → IsLeastBelow at feed least (queues_of works) → IsLeastBelow (at + 1) feed (earlier_key least (option_map key_of (slice_get work.queue.waiting 0))) (queues_of works)
-least_more works at feed work least within is apart below =
-    let there = waits_there works at work within is in
-    let mine = option_map key_of (slice_get work.queue.waiting 0) in
-    record {
-      others = λ core frame rest lower other waits. elim (cases_lt core at) [
-        | inl before ↦ not_before_earlier (key_of frame) least mine (below.others core frame rest before other waits)
-        | inr not_before ↦
-            let here : core ≡ at = omega arith in
-            let waiting : work.queue.waiting ≡ frame ∷ rest = some_same (sym there ∙ ap (slice_get (all_waiting (queues_of works))) (sym here) ∙ waits) in
-            subst (λ (l : List Frame). StandsNotBefore (key_of frame) (earlier_key least (option_map key_of (slice_get l 0)))) (sym waiting) (itself_not_before (key_of frame) least)
-      ];
-      is_one = λ key found. elim (earlier_is least mine key found) [
-        | inl old ↦ below.is_one key old
-        | inr new ↦
-            let first = first_is work.queue.waiting key new in
-            record { core = at; frame = first.0; rest = first.1; other = apart; there = there ∙ ap Some first.2; is = first.3 }
-      ];
-    }
-  where
-    some_same : {x y : List Frame} → Some x ≡ Some y → x ≡ y
-    some_same e = cc
-
-pub least_same : (works : List Work) (at feed : ℕ) (least : Option Key) → at ≡ feed → IsLeastBelow at feed least (queues_of works) → IsLeastBelow (at + 1) feed least (queues_of works)
-least_same works at feed least here below = record {
-  others = λ core frame rest lower other waits. below.others core frame rest (let apart : ¬ (core ≡ feed) = other in below_still core apart lower) other waits;
-  is_one = below.is_one;
-}
-  where
-    below_still : (core : ℕ) → ¬ (core ≡ feed) → core < at + 1 → core < at
-    below_still core apart lower = elim (cases_lt core at) [ inl before ↦ before | inr not_before ↦ absurd (apart (omega arith)) ]
-
-pub least_all : (works : List Work) (at feed : ℕ) (least : Option Key) → length works ≤ at → IsLeastBelow at feed least (queues_of works) → IsLeastElsewhere feed least (queues_of works)
-least_all works at feed least all below = record {
-  least = λ core frame rest other waits. below.others core frame rest (let lower = waits_within works core (frame ∷ rest) waits in omega arith) other waits;
-  is_one = below.is_one;
-}
+-- ---- a work
 
 -- the base and what waits at a work
 pub base_there : (works : List Work) (at : ℕ) (work : Work) → at < length works → work ≡ get_or works at work → base_at at works ≡ work.base
@@ -425,23 +344,22 @@ pub record IsFound (frames : List Frame) (works : List Work) (rounds limit sent 
   pub fits : sent + length packets ≤ limit
   pub within : at < length works
 
-pub is_found : (frames : List Frame) (works seen read : List Work) (rounds limit sent at left : ℕ) (before : Option Key) (packets : List Waiting) (next : Next)
-    → IsReady frames works rounds limit sent next → next ≡ Packet at → seen ≡ works → IsLeastElsewhere at before (queues_of seen) → read ≡ works → left ≡ limit - sent
+pub is_found : (frames : List Frame) (works read : List Work) (rounds limit sent at left : ℕ) (before : Option Key) (packets : List Waiting) (next : Next)
+    → IsReady frames works rounds limit sent next → next ≡ Packet at → IsLeastElsewhere at before (queues_of works) → read ≡ works → left ≡ limit - sent
     → packets ≡ map waiting_of (run_at at before left (queues_of read)) → IsFound frames works rounds limit sent at before packets
-is_found frames works seen read rounds limit sent at left before packets next ready is seen_is elsewhere read_is left_is packets_are =
+is_found frames works read rounds limit sent at left before packets next ready is elsewhere read_is left_is packets_are =
     let here : IsReady frames works rounds limit sent (Packet at) = subst (IsReady frames works rounds limit sent) is ready in
-    let there : IsLeastElsewhere at before (queues_of works) = subst (λ (w : List Work). IsLeastElsewhere at before (queues_of w)) seen_is elsewhere in
     let are : packets ≡ map waiting_of (run_at at before (limit - sent) (queues_of works)) =
     packets_are ∙ ap (λ (w : List Work). map waiting_of (run_at at before left (queues_of w))) read_is
     ∙ ap (λ n. map waiting_of (run_at at before n (queues_of works))) left_is in
     let many = run_many before (limit - sent) at (queues_of works) packets are in
-    let some = some_packets frames works rounds limit sent at before here there in
+    let some = some_packets frames works rounds limit sent at before here elsewhere in
     let most = run_most before (limit - sent) (waiting_at at (queues_of works)) in
     let below = sent_within frames works rounds limit sent (Packet at) here in
     let chosen = packet_is_least (limit - sent) at (queues_of works) (sym here.next_is) in
     record {
       ready = here;
-      elsewhere = there;
+      elsewhere = elsewhere;
       packets_are = are;
       many = many;
       some = omega (arith, many, some);

@@ -4,6 +4,7 @@ pub mod Tallies
 pub mod Counts
 pub mod Rounds
 pub mod Step
+pub mod Firsts
 pub mod State
 pub mod Ready
 pub mod Clean

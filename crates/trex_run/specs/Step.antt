@@ -64,9 +64,3 @@ abbrev pub rounds_after : Next → ℕ → ℕ
 rounds_after (Need core) rounds = rounds + 1
 rounds_after (Packet at) rounds = rounds
 rounds_after End rounds = rounds
-
--- of two keys the one that comes before the other, and the first where neither does
-abbrev pub earlier_key : Option Key → Option Key → Option Key
-earlier_key None other = other
-earlier_key (Some one) None = Some one
-earlier_key (Some one) (Some other) = if is_before other one then Some other else Some one

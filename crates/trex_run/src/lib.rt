@@ -4,6 +4,7 @@
 
 mod capture_writer;
 mod counts;
+mod firsts;
 mod laws;
 mod pieces;
 mod progress;

@@ -16,8 +16,9 @@ ghost use Rattle.trex_run.specs.Ready.{first_works};
 ghost use Rattle.trex_run.specs.State.{IsCurrent, IsPassed, IsShort, IsStep, ahead, cores_of, packets_reached};
 ghost use Rattle.trex_run.specs.Step.{is_packet, reached};
 
+use crate::firsts::{Coming, FirstKeys};
 use crate::pieces::gather;
-use crate::run::{least_elsewhere, run_of};
+use crate::run::run_of;
 use crate::step::{send, send_run, steps_are_events, supply};
 use crate::tally::{count_all, count_next, head_of};
 use std::marker::Model;
@@ -35,8 +36,8 @@ pub(crate) struct Progress<'p> {
     plan: &'p Plan<'p>,
     crew: Crew<CoreWork<'p>>,
     mill: Mill,
-    // what comes next
-    next: Next,
+    firsts: FirstKeys,
+    coming: Coming,
     tallies: Vec<Tally>,
 }
 
@@ -47,6 +48,7 @@ impl<'p> Model for Progress<'p> {
     ghost use Rattle.trex_crew.specs.Crews.{works_of};
     ghost use Rattle.trex_merge.specs.Frames.{sequence};
     ghost use Rattle.trex_run.specs.Capture.{tallies as tallies_of};
+    ghost use Rattle.trex_run.specs.Firsts.{IsBound, firsts_of};
     ghost use Rattle.trex_run.specs.Ready.{HaveBase, IsReady, queues_of};
     ghost use Rattle.trex_run.specs.State.{IsEarly, RunState};
     ghost use Rattle.trex_run.specs.Step.{mill_after, packet_ahead};
@@ -59,19 +61,22 @@ impl<'p> Model for Progress<'p> {
       rounds = r.crew.rounds;
     } };
 
-    ghost invariant = { λ r. IsReady (frames_of_plan r.plan.now) (works_of r.crew) r.crew.rounds r.mill.limit r.mill.sent r.next
+    ghost invariant = { λ r. IsReady (frames_of_plan r.plan.now) (works_of r.crew) r.crew.rounds r.mill.limit r.mill.sent r.coming.next
         × (r.tallies.items ≡ tallies_of r.plan.now.profile
-        (take (r.mill.sent + packet_ahead r.next) (sequence r.mill.limit (frames_of_plan r.plan.now))))
+        (take (r.mill.sent + packet_ahead r.coming.next) (sequence r.mill.limit (frames_of_plan r.plan.now))))
         × AllByRecursion IsEarly (frames_of_plan r.plan.now)
-        × HaveBase r.plan.now.base (works_of r.crew) };
+        × HaveBase r.plan.now.base (works_of r.crew)
+        × (r.firsts ≡ firsts_of (queues_of (works_of r.crew)))
+        × IsBound r.coming.next r.coming.before (queues_of (works_of r.crew)) };
 }
 
 impl<'p> Progress<'p> {
-    /// A run before its first step, over a crew whose works haven't made a packet.
+    /// A run before its first step, over a crew whose works haven't made a packet. The keys have a place for each core.
     pub(crate) fn start(
         plan: &'p Plan<'p>,
         crew: Crew<CoreWork<'p>>,
         limit: u64,
+        firsts: FirstKeys,
         tallies: Vec<Tally>,
     ) -> Progress<'p>
         requires kept { refusal_of plan.now.profile ≡ None }
@@ -81,6 +86,7 @@ impl<'p> Progress<'p> {
         requires some { 0 < length (works_of crew) }
         requires works { works_of crew ≡ first_works plan.now.base (length (works_of crew)) (frames_of_plan plan.now) }
         requires rounds { crew.rounds ≡ 0 }
+        requires firsts { length firsts ≡ length (works_of crew) }
         requires tallies { tallies.items ≡ tallies_of plan.now.profile [] }
         ensures plan { result.plan ≡ plan.now }
         ensures none { reached result.state ≡ 0 }
@@ -90,12 +96,15 @@ impl<'p> Progress<'p> {
     {
         plans_rise();
         let mill = Mill::new(limit);
-        let next = mill.peek(crew.works());
+        let mut firsts = firsts;
+        firsts.read_all(crew.works());
+        let coming = firsts.look(mill.left(), crew.works());
         Progress {
             plan,
             crew,
             mill,
-            next,
+            firsts,
+            coming,
             tallies,
         }
     }
@@ -104,10 +113,22 @@ impl<'p> Progress<'p> {
     pub(crate) fn step<R: Threads + Sync, G: Gate>(&mut self, rt: &R, gates: &mut [G]) -> bool
         ensures { IsStep G.entries self.old self.new gates.old gates.new result }
     {
-        let then = send(&mut self.mill, &mut self.crew, self.next);
-        self.next = supply(rt, &self.mill, &mut self.crew, then, gates);
-        count_next(self.crew.works(), self.next, &mut self.tallies);
-        is_packet(self.next)
+        let then = send(
+            &mut self.mill,
+            &mut self.crew,
+            &mut self.firsts,
+            self.coming,
+        );
+        self.coming = supply(
+            rt,
+            &self.mill,
+            &mut self.crew,
+            &mut self.firsts,
+            then,
+            gates,
+        );
+        count_next(self.crew.works(), self.coming.next, &mut self.tallies);
+        is_packet(self.coming.next)
     }
 
     /// Gathers the run of packets that begins with the current one, sends it, and goes to the packet after it, as a step does. Whether there
@@ -128,12 +149,12 @@ impl<'p> Progress<'p> {
         ensures cause { HasCause O.faults out.old out.new result }
         ensures capacity { PIECE ≤ vec_capacity piece.new }
     {
-        let feed = match self.next {
+        let feed = match self.coming.next {
             Next::Packet { feed } => feed,
             Next::Need { .. } => unreachable!(),
             Next::End => unreachable!(),
         };
-        let before = least_elsewhere(self.crew.works(), feed);
+        let before = self.coming.before;
         let run = run_of(self.crew.works(), feed, before, self.mill.left());
         if let Err(failed) = gather(out, piece, run.text) {
             return Err(failed);
@@ -142,10 +163,24 @@ impl<'p> Progress<'p> {
         count_all(&mut self.tallies, &run.packets[1..]);
         let packets = run.packets.len();
         let bytes = run.text.len();
-        let then = send_run(&mut self.mill, &mut self.crew, feed, packets, bytes);
-        self.next = supply(rt, &self.mill, &mut self.crew, then, gates);
-        count_next(self.crew.works(), self.next, &mut self.tallies);
-        Ok(is_packet(self.next))
+        let then = send_run(
+            &mut self.mill,
+            &mut self.crew,
+            &mut self.firsts,
+            feed,
+            packets,
+            bytes,
+        );
+        self.coming = supply(
+            rt,
+            &self.mill,
+            &mut self.crew,
+            &mut self.firsts,
+            then,
+            gates,
+        );
+        count_next(self.crew.works(), self.coming.next, &mut self.tallies);
+        Ok(is_packet(self.coming.next))
     }
 
     /// The packet that the last step went to.
@@ -153,7 +188,7 @@ impl<'p> Progress<'p> {
         requires { is_packet (next_in self.now.state) ≡ true }
         ensures { IsCurrent self.now result }
     {
-        match self.next {
+        match self.coming.next {
             Next::Packet { feed } => head_of(self.crew.works(), feed),
             Next::Need { .. } => unreachable!(),
             Next::End => unreachable!(),

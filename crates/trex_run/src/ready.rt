@@ -10,6 +10,7 @@ ghost use Rattle.trex_run.specs.Ready.{first_works};
 ghost use Rattle.trex_run.specs.State.{IsCurrent, IsStep, all_of, cores_of, packets_reached};
 ghost use Rattle.trex_run.specs.Step.{is_packet, reached};
 
+use crate::firsts::FirstKeys;
 use crate::pieces::PIECE;
 use crate::progress::Progress;
 use crate::tally::no_tallies;
@@ -112,7 +113,8 @@ pub fn prepare<'p>(
     let streams = profile.len();
     let tallies = no_tallies(alloc, profile, streams)?;
     let crew = crew_of(alloc, plan, ask.cores)?;
+    let firsts = FirstKeys::new(alloc, ask.cores)?;
     let piece = Vec::with_capacity(alloc, PIECE)?;
-    let progress = Progress::start(plan, crew, ask.limit, tallies);
+    let progress = Progress::start(plan, crew, ask.limit, firsts, tallies);
     Ok(Ready { progress, piece })
 }

@@ -5,37 +5,12 @@ ghost use Rattle.std.specs.List.{AllByRecursion};
 ghost use Rattle.trex_core.specs.Records.{waiting_of};
 ghost use Rattle.trex_core.specs.Texts.{records_text};
 ghost use Rattle.trex_merge.specs.Queues.{at_place, waiting_at};
-ghost use Rattle.trex_merge.specs.Runs.{IsLeastElsewhere, dropped};
-ghost use Rattle.trex_run.specs.Step.{earlier_key};
+ghost use Rattle.trex_merge.specs.Runs.{dropped};
 ghost use Rattle.trex_run.specs.Ready.{base_at, marks_of, queues_of, run_at};
 ghost use Rattle.trex_run.specs.State.{IsShort};
 
 use trex_core::{CoreWork, Run};
-use trex_merge::{Key, is_before};
-
-/// The earlier of two keys, if any.
-fn earlier(one: Option<Key>, other: Option<Key>) -> Option<Key>
-    ensures { result ≡ earlier_key one other }
-{
-    match (one, other) {
-        (Some(key), Some(new)) => { if is_before(&new, &key) { other } else { one } }
-        (Some(_), None) => one,
-        (None, _) => other,
-    }
-}
-
-/// The least key of the packets that wait first at all cores but one.
-pub(crate) fn least_elsewhere(works: &[CoreWork<'_>], feed: usize) -> Option<Key>
-    ensures { IsLeastElsewhere feed result (queues_of works.now) }
-{
-    let mut least = None;
-    for (at, work) in works.iter().enumerate() {
-        if at != feed {
-            least = earlier(least, work.first_key());
-        }
-    }
-    least
-}
+use trex_merge::Key;
 
 /// The run at a core at which a packet waits.
 pub(crate) fn run_of<'w>(

@@ -21,6 +21,11 @@ start-progress-requires-clause-works c =
     let count = ap length works ∙ works_count c.args.plan.now.base c.args.ask.now.cores frames in
     works ∙ ap (λ n. first_works c.args.plan.now.base n frames) (sym count)
 
+pub start-progress-requires-clause-firsts : goal.start-progress-requires-clause-firsts
+start-progress-requires-clause-firsts c =
+    let frames = frames_of_plan c.args.plan.now in
+    c.in_ok-firsts.ensures ∙ sym (ap length c.in_ok-crew.ensures.works ∙ works_count c.args.plan.now.base c.args.ask.now.cores frames)
+
 pub returns-clause-all : goal.returns-clause-all
 returns-clause-all c =
     let frames = frames_of_plan c.args.plan.now in

@@ -23,10 +23,10 @@ pub supply-self-inside-requires-clause-turns : goal.supply-self-inside-requires-
 supply-self-inside-requires-clause-turns g c =
     let i = c.self.inside in
     let send = c.send-then.ensures in
-    let then : c.send-then.result ≡ next_of (i.mill.limit - c.send-then.new.mill.sent) (queues_of (works_of c.send-then.new.crew)) = rw send.limit at send.next in
+    let then : c.send-then.result.next ≡ next_of (i.mill.limit - c.send-then.new.mill.sent) (queues_of (works_of c.send-then.new.crew)) = rw send.limit at send.next in
     let sends = after_emit (frames_of_plan i.plan.now) (works_of i.crew) (works_of c.send-then.new.crew) i.crew.rounds
-    i.mill.limit i.mill.sent c.send-then.new.mill.sent i.next c.send-then.result c.self.invariant.0 send.queues send.marks send.sent then in
-    let within = sent_within (frames_of_plan i.plan.now) (works_of c.send-then.new.crew) i.crew.rounds i.mill.limit c.send-then.new.mill.sent c.send-then.result sends.ready in
+    i.mill.limit i.mill.sent c.send-then.new.mill.sent i.coming.next c.send-then.result.next c.self.invariant.0 send.queues send.marks send.sent then in
+    let within = sent_within (frames_of_plan i.plan.now) (works_of c.send-then.new.crew) i.crew.rounds i.mill.limit c.send-then.new.mill.sent c.send-then.result.next sends.ready in
     let few = sends.ready.limited in
     λ lifetimes order. turns_below c.send-then.new.mill.sent (2 ^ 63) (works_of c.send-then.new.crew) (omega (arith, within, few)) sends.turns
 
@@ -37,7 +37,7 @@ count_next-requires-clause-least g c feed is =
     let supply = c.supply-self-inside.ensures in
     let gone =
     gone_to (frames_of_plan i.plan.now) (works_of i.crew) (works_of c.send-then.new.crew) (works_of c.supply-self-inside.new.crew) i.crew.rounds c.send-then.new.crew.rounds
-    c.supply-self-inside.new.crew.rounds i.mill.limit c.send-then.new.mill.limit i.mill.sent c.send-then.new.mill.sent i.next c.send-then.result c.supply-self-inside.result
+    c.supply-self-inside.new.crew.rounds i.mill.limit c.send-then.new.mill.limit i.mill.sent c.send-then.new.mill.sent i.coming.next c.send-then.result.next c.supply-self-inside.result.next
     c.self.invariant.0 send.queues send.marks send.rounds send.sent send.limit send.next supply.works supply.rounds supply.next in
     rw c.works.ensures (packet_is_least (i.mill.limit - c.send-then.new.mill.sent) feed (queues_of (works_of c.supply-self-inside.new.crew)) (sym gone.ready.next_is ∙ is))
 
@@ -47,7 +47,7 @@ count_next-requires-clause-room g c =
     let frames = frames_of_plan i.plan.now in
     let ready = c.self.invariant.0 in
     rw (c.deref_mut.ensures.value, c.self.invariant.1)
-    (AtMostPackets-front i.plan.now.profile (ordered key_of frames) i.mill.limit (i.mill.sent + packet_ahead i.next) (all_ordered frames ready.short) ready.limited)
+    (AtMostPackets-front i.plan.now.profile (ordered key_of frames) i.mill.limit (i.mill.sent + packet_ahead i.coming.next) (all_ordered frames ready.short) ready.limited)
 
 pub count_next-requires-clause-short : goal.count_next-requires-clause-short
 count_next-requires-clause-short g c feed =
@@ -56,7 +56,7 @@ count_next-requires-clause-short g c feed =
     let supply = c.supply-self-inside.ensures in
     let gone =
     gone_to (frames_of_plan i.plan.now) (works_of i.crew) (works_of c.send-then.new.crew) (works_of c.supply-self-inside.new.crew) i.crew.rounds c.send-then.new.crew.rounds
-    c.supply-self-inside.new.crew.rounds i.mill.limit c.send-then.new.mill.limit i.mill.sent c.send-then.new.mill.sent i.next c.send-then.result c.supply-self-inside.result
+    c.supply-self-inside.new.crew.rounds i.mill.limit c.send-then.new.mill.limit i.mill.sent c.send-then.new.mill.sent i.coming.next c.send-then.result.next c.supply-self-inside.result.next
     c.self.invariant.0 send.queues send.marks send.rounds send.sent send.limit send.next supply.works supply.rounds supply.next in
     let queues = queues_of (works_of c.supply-self-inside.new.crew) in
     rw c.works.ensures
@@ -69,16 +69,16 @@ invariant_of-self g c =
     let supply = c.supply-self-inside.ensures in
     let gone =
     gone_to (frames_of_plan i.plan.now) (works_of i.crew) (works_of c.send-then.new.crew) (works_of c.supply-self-inside.new.crew) i.crew.rounds c.send-then.new.crew.rounds
-    c.supply-self-inside.new.crew.rounds i.mill.limit c.send-then.new.mill.limit i.mill.sent c.send-then.new.mill.sent i.next c.send-then.result c.supply-self-inside.result
+    c.supply-self-inside.new.crew.rounds i.mill.limit c.send-then.new.mill.limit i.mill.sent c.send-then.new.mill.sent i.coming.next c.send-then.result.next c.supply-self-inside.result.next
     c.self.invariant.0 send.queues send.marks send.rounds send.sent send.limit send.next supply.works supply.rounds supply.next in
     let all = sequence i.mill.limit (frames_of_plan i.plan.now) in
     let was : i.tallies.items ≡ tallies i.plan.now.profile (take c.send-then.new.mill.sent all) =
     c.self.invariant.1 ∙ ap (λ n. tallies i.plan.now.profile (take n all)) (sym send.sent) in
-    let counts : CountsNext c.supply-self-inside.result (queues_of (works_of c.supply-self-inside.new.crew)) i.tallies.items c.count_next.new.tallies =
+    let counts : CountsNext c.supply-self-inside.result.next (queues_of (works_of c.supply-self-inside.new.crew)) i.tallies.items c.count_next.new.tallies =
     rw (c.works.ensures, c.deref_mut.ensures.value) at c.count_next.ensures in
-    let is : c.count_next.new.tallies ≡ tallies i.plan.now.profile (take (c.send-then.new.mill.sent + packet_ahead c.supply-self-inside.result) all) =
+    let is : c.count_next.new.tallies ≡ tallies i.plan.now.profile (take (c.send-then.new.mill.sent + packet_ahead c.supply-self-inside.result.next) all) =
     counted_next i.plan.now.profile (frames_of_plan i.plan.now) (works_of c.supply-self-inside.new.crew) c.supply-self-inside.new.crew.rounds i.mill.limit
-    c.send-then.new.mill.sent c.supply-self-inside.result i.tallies.items c.count_next.new.tallies gone.ready was counts in
+    c.send-then.new.mill.sent c.supply-self-inside.result.next i.tallies.items c.count_next.new.tallies gone.ready was counts in
     let new = c.count_next.new.tallies in
     let rest = drop (length new) i.tallies.items in
     let long : i.tallies.len ≡ length new = omega (arith, c.deref_mut.ensures.len) in
@@ -87,7 +87,9 @@ invariant_of-self g c =
       gone.ready,
       back ∙ is,
       c.self.invariant.2,
-      bases_after i.plan.now.base c.send-then.result (works_of i.crew) (works_of c.send-then.new.crew) (works_of c.supply-self-inside.new.crew) send.marks supply.works c.self.invariant.3,
+      bases_after i.plan.now.base c.send-then.result.next (works_of i.crew) (works_of c.send-then.new.crew) (works_of c.supply-self-inside.new.crew) send.marks supply.works c.self.invariant.3,
+      supply.firsts,
+      supply.bound,
     )
 
 pub returns : goal.returns
@@ -97,17 +99,17 @@ returns g c =
     let supply = c.supply-self-inside.ensures in
     let gone =
     gone_to (frames_of_plan i.plan.now) (works_of i.crew) (works_of c.send-then.new.crew) (works_of c.supply-self-inside.new.crew) i.crew.rounds c.send-then.new.crew.rounds
-    c.supply-self-inside.new.crew.rounds i.mill.limit c.send-then.new.mill.limit i.mill.sent c.send-then.new.mill.sent i.next c.send-then.result c.supply-self-inside.result
+    c.supply-self-inside.new.crew.rounds i.mill.limit c.send-then.new.mill.limit i.mill.sent c.send-then.new.mill.sent i.coming.next c.send-then.result.next c.supply-self-inside.result.next
     c.self.invariant.0 send.queues send.marks send.rounds send.sent send.limit send.next supply.works supply.rounds supply.next in
     let works' = works_of c.supply-self-inside.new.crew in
     let rounds' = c.supply-self-inside.new.crew.rounds in
     let sent' = c.send-then.new.mill.sent in
-    let entered : EnteredAfter g.G.Gate.entries (λ (w : Work). w.core) c.send-then.result (works_of c.send-then.new.crew) i.crew.rounds c.args.gates.now c.supply-self-inside.new.gates =
-    subst (λ n. EnteredAfter g.G.Gate.entries (λ (w : Work). w.core) c.send-then.result (works_of c.send-then.new.crew) n c.args.gates.now c.supply-self-inside.new.gates)
+    let entered : EnteredAfter g.G.Gate.entries (λ (w : Work). w.core) c.send-then.result.next (works_of c.send-then.new.crew) i.crew.rounds c.args.gates.now c.supply-self-inside.new.gates =
+    subst (λ n. EnteredAfter g.G.Gate.entries (λ (w : Work). w.core) c.send-then.result.next (works_of c.send-then.new.crew) n c.args.gates.now c.supply-self-inside.new.gates)
     send.rounds supply.gates in
     let step = step_is g.G.Gate.entries i.plan.now (works_of i.crew) (works_of c.send-then.new.crew) works' i.crew.rounds rounds' i.mill.limit i.mill.sent sent'
-    i.next c.send-then.result c.supply-self-inside.result c.args.gates.now c.supply-self-inside.new.gates c.self.invariant.0 gone
-    send.sent (supply.rounds ∙ ap (rounds_after c.send-then.result) send.rounds) entered in
+    i.coming.next c.send-then.result.next c.supply-self-inside.result.next c.args.gates.now c.supply-self-inside.new.gates c.self.invariant.0 gone
+    send.sent (supply.rounds ∙ ap (rounds_after c.send-then.result.next) send.rounds) entered in
     let Step : RunState → ℕ → Bool → Type 0 = λ old limit found. IsStep g.G.Gate.entries old (state_of i.plan.now works' rounds' sent' limit) c.args.gates.now c.supply-self-inside.new.gates found in
     let old = state_of i.plan.now (works_of i.crew) i.crew.rounds i.mill.sent i.mill.limit in
     subst (λ run. Step run c.send-then.new.mill.limit c.is_packet.result) c.self.view_is
