@@ -4,7 +4,7 @@ use Rattle.std.proofs.lemmas.Bool.{cases_lt, eq-eqb, ne_eqb}
 use Rattle.std.proofs.lemmas.List.Elements.{filter_map-append, All-head, All-tail}
 use Rattle.std.proofs.lemmas.List.Sums.{sum_by-append}
 use Rattle.std.specs.BTreeMap.{is_at}
-use Rattle.std.specs.List.{All, cons_option, sum_by}
+use Rattle.std.specs.List.{All, cons_option}
 use Rattle.std.specs.Map.{keys_of, lookup}
 use Rattle.std.specs.Ordering.{nat_cmp, is_eq}
 use Rattle.trex_io.specs.Seen.{Seen}

@@ -1,5 +1,5 @@
 -- One more record, with a stamp or without.
-use Rattle.std.proofs.Common.{◌≡◌, ◌+◌, ◌∙◌, sym, ap, subst}
+use Rattle.std.proofs.Common.{◌+◌, ◌∙◌, sym, ap, subst}
 use Rattle.trex_stats.proofs.Standing.{glimpse_plain, glimpse_stamped, stands_stamped, stands_plain}
 use Rattle.trex_stats.specs.Counts.{arrivals, arrival_of, with_one}
 use Rattle.trex_stats.specs.Kept.{AreFlows}
