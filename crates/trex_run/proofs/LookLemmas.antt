@@ -1,13 +1,12 @@
 -- One look at the packets that wait first at the cores.
-use Rattle.std.proofs.Common.{◌≡◌, ℕ, zero, suc, ◌+◌, ◌<◌, ◌≤◌, ◌⊎◌, inl, inr, ◌&&◌, not, Bool, true, false, cond, Option, None, Some, List, [], ◌∷◌, ◌++◌, IsTrue, add-one, drop, get_or, length, map, refl, set, sym, take, ap, ◌∙◌, subst, arith}
+use Rattle.std.proofs.Common.{◌≡◌, ℕ, zero, suc, ◌+◌, ◌<◌, ◌≤◌, ◌⊎◌, inl, inr, ◌&&◌, not, Bool, true, false, cond, Option, None, Some, List, [], ◌∷◌, ◌++◌, IsTrue, drop, get_or, length, map, refl, set, sym, take, ap, ◌∙◌, subst, arith}
 use Rattle.std.proofs.lemmas.Bool.{cases_lt, false≢true}
 use Rattle.std.proofs.lemmas.List.{length-map, length-set, take_all, take_more_set}
 use Rattle.std.proofs.Math.Seq.{drop-cons}
 use Rattle.std.specs.List.{slice_get}
 use Rattle.std.specs.Option.{option_map}
 use Rattle.trex_merge.specs.declared.key.Key.{Key}
-use Rattle.trex_merge.specs.declared.next.Next.{Next}
-use Rattle.trex_merge.specs.declared.next.Next.TheVariants.{Need, Packet}
+use Rattle.trex_merge.specs.declared.next.Next.TheVariants.{Need}
 use Rattle.trex_merge.specs.declared.place.Place.{Place}
 use Rattle.trex_merge.specs.Frames.{Frame, key_of}
 use Rattle.trex_merge.specs.Heads.{earlier_of, head_at, least_from}

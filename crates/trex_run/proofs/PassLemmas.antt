@@ -1,10 +1,8 @@
 -- A run of packets: what is sent of it, and what stays true of the run of the profile.
-use Rattle.std.proofs.Common.{◌≡◌, ℕ, zero, suc, ◌+◌, ◌-◌, ◌≤◌, ◌<◌, true, false, cond, None, Option, ◌⊎◌, inl, inr, List, [], ◌∷◌, ◌++◌, append_assoc, append-nil, length, map, take, drop, replicate, refl, sym, ap, ◌∙◌, subst, arith, Some, length-append, length-take, get_or}
-use Rattle.std.proofs.lemmas.Bool.{cases_lt, false≢true}
+use Rattle.std.proofs.Common.{◌≡◌, ℕ, zero, suc, ◌+◌, ◌-◌, ◌≤◌, ◌<◌, true, false, cond, Option, List, [], ◌∷◌, ◌++◌, append_assoc, append-nil, length, map, take, drop, replicate, refl, sym, ap, ◌∙◌, subst, arith, Some, length-append, length-take, get_or}
 use Rattle.std.proofs.lemmas.List.{drop_at, drop-map, drop-take, length-map, length-take-le}
 use Rattle.std.proofs.Math.Seq.{take-add, take-append_seam}
 use Rattle.std.specs.List.{AllByRecursion, range_with_len, slice_get}
-use Rattle.std.specs.Option.{option_map}
 use Rattle.trex_core.specs.Plan.{PlanOf, frames_of_plan}
 use Rattle.trex_core.specs.declared.waiting.Waiting.{Waiting}
 use Rattle.trex_core.specs.Records.{waiting_of}
@@ -14,11 +12,10 @@ use Rattle.trex_merge.specs.declared.next.Next.{Next}
 use Rattle.trex_merge.specs.declared.next.Next.TheVariants.{Packet, Need, End}
 use Rattle.trex_merge.specs.Frames.{Frame, key_of, sequence}
 use Rattle.trex_merge.specs.Machine.{Emit, HaveShares, IsEnded, IsMill, MillState, happens, next_in, run}
-use Rattle.trex_merge.specs.Order.{is_before, joined, ordered}
-use Rattle.trex_merge.specs.Queues.{Queue, all_waiting, at_place, next_of, stem, waiting_at}
-use Rattle.trex_merge.specs.Runs.{IsLeastElsewhere, OthersNotBefore, StandsNotBefore, WaitsElsewhere, dropped, run_length, stands_before}
+use Rattle.trex_merge.specs.Order.{joined, ordered}
+use Rattle.trex_merge.specs.Queues.{Queue, at_place, next_of, stem, waiting_at}
+use Rattle.trex_merge.specs.Runs.{IsLeastElsewhere, OthersNotBefore, dropped, run_length, stands_before}
 use Rattle.trex_merge.proofs.EventLemmas.{run_keeps, sent_whole}
-use Rattle.trex_merge.proofs.KeyLemmas.{before_trans, not_before_itself}
 use Rattle.trex_merge.proofs.RunLemmas.{run_has_one, run_passes}
 use Rattle.trex_merge.proofs.ShareLemmas.{emit_shares}
 use Rattle.trex_profile.specs.Stream.{Stream}

@@ -1,11 +1,10 @@
 -- A step of a run: what was sent is known by its number, since the order of all packets is. Own.
-use Rattle.std.specs.Prelude.{ℕ, ◌+◌, Bool, true, false, if◌then◌else◌, Option, None, Some, List, [], ◌∷◌, length, map, replicate, take}
-use Rattle.trex_merge.specs.declared.key.Key.{Key}
+use Rattle.std.specs.Prelude.{ℕ, ◌+◌, Bool, true, false, List, [], ◌∷◌, length, map, replicate, take}
 use Rattle.trex_merge.specs.declared.next.Next.{Next}
 use Rattle.trex_merge.specs.declared.next.Next.TheVariants.{Packet, Need, End}
 use Rattle.trex_merge.specs.Frames.{Frame, key_of}
 use Rattle.trex_merge.specs.Machine.{Event, Refill, Emit, MillState, happens, next_in, run}
-use Rattle.trex_merge.specs.Order.{is_before, ordered}
+use Rattle.trex_merge.specs.Order.{ordered}
 use Rattle.trex_merge.specs.Queues.{Queue, at_place, popped}
 
 -- the mill with these queues, after so many packets were sent

@@ -1,4 +1,4 @@
-use Rattle.std.proofs.Common.{◌≡◌, List, Option, ap, set, sym, ◌∙◌}
+use Rattle.std.proofs.Common.{List, Option, ap, set, sym, ◌∙◌}
 use Rattle.trex_core.specs.Works.{Work}
 use Rattle.trex_merge.specs.declared.key.Key.{Key}
 use Rattle.trex_run.specs.Firsts.{first_at}
