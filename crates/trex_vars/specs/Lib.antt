@@ -3,4 +3,5 @@ pub mod Value
 pub mod Check
 pub mod Bounds
 pub mod Stand
+pub mod Places
 pub mod Registers

@@ -2,7 +2,7 @@
 
 ghost use Rattle.std.specs.Prelude.{◌≡◌, ◌+◌, ◌*◌, ◌<◌, None};
 ghost use Rattle.trex_vars.specs.Check.{fault_of};
-ghost use Rattle.trex_vars.specs.Registers.{counter_course, course_of};
+ghost use Rattle.trex_vars.specs.Registers.{counter_course, course_of, still};
 ghost use Rattle.trex_vars.specs.Value.{back, flows};
 ghost use Rattle.trex_vars.specs.Variable.{variable_of};
 
@@ -16,12 +16,16 @@ pub(crate) struct Course {
     pub(crate) last: u64,
 }
 
-/// The course of a random variable, which stays at one place: its values come from its words alone.
-const STILL: Course = Course {
-    first: 0,
-    step: 0,
-    last: 0,
-};
+/// The course of a random variable, which stays at one place: its words alone go over its places.
+fn still(last: u64) -> Course
+    ensures { result ≡ still last }
+{
+    Course {
+        first: 0,
+        step: 0,
+        last,
+    }
+}
 
 impl Course {
     /// The course of a variable.
@@ -41,7 +45,7 @@ impl Course {
                 // A random counter may begin below its least value.
                 counter_course(*op, *max - *min, init.saturating_sub(*min), *step)
             }
-            VarSpec::RandLimit { .. } => STILL,
+            VarSpec::RandLimit { min, max, .. } => still(*max - *min),
             VarSpec::List {
                 op,
                 step,
@@ -78,7 +82,7 @@ fn counter_course(op: Op, last: u64, first: u64, step: u64) -> Course
             step: back(last, step),
             last,
         },
-        Op::Random => STILL,
+        Op::Random => still(last),
     }
 }
 

@@ -6,6 +6,7 @@ mod course;
 mod draw;
 mod faults;
 mod laws;
+mod places;
 mod shown;
 mod spec;
 mod strided;

@@ -2,11 +2,13 @@
 
 ghost use Rattle.std.specs.Prelude.{◌≡◌, ◌+◌, ◌<◌, ◌≤◌, ◌^◌, None};
 ghost use Rattle.trex_vars.specs.Check.{fault_of};
+ghost use Rattle.trex_vars.specs.Registers.{course_of, place_of};
 ghost use Rattle.trex_vars.specs.Value.{value_at};
 ghost use Rattle.trex_vars.specs.Variable.{variable_of};
 
 use crate::course::Course;
 use crate::draw::{draw_at, word_number};
+use crate::places::Places;
 use crate::shown::value_from;
 use crate::spec::VarSpec;
 use crate::value::VarValue;
@@ -23,6 +25,8 @@ pub struct Strided<'p> {
     number: u64,
     wheel: Wheel,
     words: Option<Words>,
+    /// The places that the words fall on.
+    places: Places,
 }
 
 impl<'p> Model for Strided<'p> {
@@ -34,7 +38,7 @@ impl<'p> Model for Strided<'p> {
 
     ghost view = { λ s. record { variable = variable_of s.spec.now; cores = s.cores; number = s.number } };
 
-    ghost invariant = { λ s. IsAt (variable_of s.spec.now) s.cores s.number s.wheel.place s.wheel.stride s.wheel.last s.words };
+    ghost invariant = { λ s. IsAt (variable_of s.spec.now) s.cores s.number s.wheel.place s.wheel.stride s.wheel.last s.places.last s.words };
 }
 
 impl<'p> Strided<'p> {
@@ -45,12 +49,14 @@ impl<'p> Strided<'p> {
         requires cores { cores ≤ 64 }
         ensures { result ≡ record { variable = variable_of spec.now; cores = cores; number = core } }
     {
-        Strided::at(spec, cores, u64::from(core))
+        let places = Places::up_to(Course::of(spec).last);
+        Strided::at(spec, places, cores, u64::from(core))
     }
 
     /// The values at packet `number`, for one of `cores` cores.
-    fn at(spec: &'p VarSpec, cores: u32, number: u64) -> Strided<'p>
+    fn at(spec: &'p VarSpec, places: Places, cores: u32, number: u64) -> Strided<'p>
         requires sound { fault_of (variable_of spec.now) ≡ None }
+        requires places { places.last ≡ (course_of (variable_of spec.now)).last }
         requires number { number < 2 ^ 63 }
         ensures { result ≡ record { variable = variable_of spec.now; cores = cores; number = number } }
     {
@@ -62,6 +68,18 @@ impl<'p> Strided<'p> {
             number,
             wheel,
             words,
+            places,
+        }
+    }
+
+    /// The place of the variable's value at this packet.
+    fn place(&self) -> u64
+        ensures value { result ≡ place_of self.now.variable self.now.number }
+        ensures within { result ≤ (course_of self.now.variable).last }
+    {
+        match &self.words {
+            Some(words) => self.places.within(words.word()),
+            None => self.wheel.place(),
         }
     }
 
@@ -69,11 +87,7 @@ impl<'p> Strided<'p> {
     pub fn value(&self) -> VarValue
         ensures { result ≡ value_at self.now.variable self.now.number }
     {
-        let word = match &self.words {
-            Some(words) => words.word(),
-            None => 0,
-        };
-        value_from(self.spec, self.wheel.place(), word)
+        value_from(self.spec, self.place())
     }
 
     /// Goes on to the core's next packet.
@@ -93,6 +107,6 @@ impl<'p> Strided<'p> {
         requires { n < 2 ^ 63 }
         ensures { self.new ≡ record self.old { number = n } }
     {
-        *self = Strided::at(self.spec, self.cores, n);
+        *self = Strided::at(self.spec, self.places, self.cores, n);
     }
 }
