@@ -1,6 +1,6 @@
 -- The values of a variable, and the ends between which they lie.
 use Rattle.std.proofs.Common.{◌≡◌, ℕ, zero, suc, ◌+◌, ◌-◌, ◌*◌, ◌/◌, ◌%◌, ◌<◌, ◌≤◌, min, max, List, [], ◌∷◌, length, get_or, ap, ◌∙◌, arith}
-use Rattle.std.specs.Prelude.{None, IfSome, ◌==◌, ◌||◌, nat_lt, false, slice_index}
+use Rattle.std.specs.Prelude.{None, ◌==◌, ◌||◌, nat_lt, false, slice_index}
 use Rattle.std.specs.List.{fold}
 use Rattle.std.proofs.Math.Nat.{mod-lt, div-lt_iff_lt-mul}
 use Rattle.std.proofs.lemmas.Bool.{ltb-false, or_parts}
@@ -10,7 +10,7 @@ use Rattle.trex_vars.specs.declared.spec.Op.TheVariants.{Inc, Dec, Random}
 use Rattle.trex_vars.specs.declared.value.VarValue.TheVariants.{One, Pair}
 use Rattle.trex_vars.specs.Bounds.{IsBetween, least, greatest, least_of, greatest_of}
 use Rattle.trex_vars.specs.Check.{fault_of}
-use Rattle.trex_vars.specs.Registers.{course_of, draw_at, place_at, shown}
+use Rattle.trex_vars.specs.Registers.{place_of, shown}
 use Rattle.trex_vars.specs.Value.{back, counted, flows, value_at, word_at}
 use Rattle.trex_vars.specs.Variable.{Variable, Counter, RandLimit, ListOf, Tuple}
 use Rattle.trex_vars.proofs.Modulo.{back-steps}
@@ -43,35 +43,34 @@ counted-lt Inc m first step seed position n pos = mod-lt (first + n * step) pos
 counted-lt Dec m first step seed position n pos = mod-lt (first + (m - n * step % m)) pos
 counted-lt Random m first step seed position n pos = mod-lt (word_at seed position n) pos
 
--- the value of a place that a variable has reached, and of the word that it has drawn
-pub shown-value : (variable : Variable) (n place word : ℕ) → fault_of variable ≡ None → place ≡ place_at (course_of variable) n
-    → IfSome (draw_at variable n) (λ draw. word ≡ word_at draw.seed draw.position draw.number) → shown variable place word ≡ value_at variable n
+-- the value at the place of a packet
+pub shown-value : (variable : Variable) (n place : ℕ) → fault_of variable ≡ None → place ≡ place_of variable n → shown variable place ≡ value_at variable n
 unfolding value_at
-shown-value (Counter Inc size init low high step seed position) n place word e p w =
-    ap (λ (k : ℕ). One (low + k)) (p ∙ place-of (high - low + 1) (init - low) step n (omega arith))
-shown-value (Counter Dec size init low high step seed position) n place word e p w =
+shown-value (Counter Inc size init low high step seed position) n place e p =
+    ap (λ (k : ℕ). One (low + k)) (p ∙ place-of (high - low + 1) (init - low + n * step) (omega arith))
+shown-value (Counter Dec size init low high step seed position) n place e p =
     let m = high - low + 1 in
-    ap (λ (k : ℕ). One (low + k)) (p ∙ place-of m (init - low) (back m 0 step) n (omega arith) ∙ back-steps m (init - low) n step (omega arith))
-shown-value (Counter Random size init low high step seed position) n place word e p w =
-    ap (λ (k : ℕ). One (low + k % (high - low + 1))) w
-shown-value (RandLimit size low high limit seed position) n place word e p w =
-    ap (λ (k : ℕ). One (low + k % (high - low + 1))) w
-shown-value (ListOf Inc size step values seed position) n place word e p w =
+    ap (λ (k : ℕ). One (low + k)) (p ∙ place-of m (init - low + n * back m 0 step) (omega arith) ∙ back-steps m (init - low) n step (omega arith))
+shown-value (Counter Random size init low high step seed position) n place e p =
+    ap (λ (k : ℕ). One (low + k)) (p ∙ place-of (high - low + 1) (word_at seed position n) (omega arith))
+shown-value (RandLimit size low high limit seed position) n place e p = ap (λ (k : ℕ). One (low + k)) p
+shown-value (ListOf Inc size step values seed position) n place e p =
     let pos = has_value values (no_fault (ListOf Inc size step values seed position) e).list in
-    ap (λ (k : ℕ). One (slice_index values k)) (p ∙ place-of (length values) 0 step n pos)
-shown-value (ListOf Dec size step values seed position) n place word e p w =
+    ap (λ (k : ℕ). One (slice_index values k)) (p ∙ place-of (length values) (0 + n * step) pos)
+shown-value (ListOf Dec size step values seed position) n place e p =
     let pos = has_value values (no_fault (ListOf Dec size step values seed position) e).list in
     let m = length values in
-    ap (λ (k : ℕ). One (slice_index values k)) (p ∙ place-of m 0 (back m 0 step) n pos ∙ back-steps m 0 n step pos)
-shown-value (ListOf Random size step values seed position) n place word e p w =
-    ap (λ (k : ℕ). One (slice_index values (k % length values))) w
-shown-value (Tuple ip_min ip_max port_min port_max limit) n place word e p w =
+    ap (λ (k : ℕ). One (slice_index values k)) (p ∙ place-of m (0 + n * back m 0 step) pos ∙ back-steps m 0 n step pos)
+shown-value (ListOf Random size step values seed position) n place e p =
+    let pos = has_value values (no_fault (ListOf Random size step values seed position) e).list in
+    ap (λ (k : ℕ). One (slice_index values k)) (p ∙ place-of (length values) (word_at seed position n) pos)
+shown-value (Tuple ip_min ip_max port_min port_max limit) n place e p =
     let addresses = ip_max - ip_min + 1 in
     let pairs = addresses * (port_max - port_min + 1) in
     let some = pairs-some (ip_max - ip_min) (port_max - port_min) in
     let plain : 0 + n * 1 ≡ n = omega arith in
     ap (λ (k : ℕ). Pair (ip_min + k % addresses) (port_min + k / addresses))
-    (p ∙ place-of (flows pairs limit) 0 1 n (flows-within pairs limit some).0 ∙ ap (λ (k : ℕ). k % flows pairs limit) plain)
+    (p ∙ place-of (flows pairs limit) (0 + n * 1) (flows-within pairs limit some).0 ∙ ap (λ (k : ℕ). k % flows pairs limit) plain)
 
 -- a member of a list is at least the least, and at most the greatest
 fold-min : (first : ℕ) (rest : List ℕ) → fold min first rest ≤ first

@@ -18,11 +18,11 @@ place-turned course n cores =
     let same : far + cores * course.step ≡ course.first + (n + cores) * course.step = omega arith in
     add-mod-mod (far % m) (cores * course.step) m ∙ mod-add-mod far m (cores * course.step) ∙ ap (λ (x : ℕ). x % m) same
 
--- a course over m places, at packet n
-pub place-of : (m first step n : ℕ) → 0 < m → (first + n * step) % (m - 1 + 1) ≡ (first + n * step) % m
-place-of m first step n pos =
+-- a number over m places, which go up to m - 1
+pub place-of : (m number : ℕ) → 0 < m → number % (m - 1 + 1) ≡ number % m
+place-of m number pos =
     let same : m - 1 + 1 ≡ m = omega arith in
-    ap (λ (k : ℕ). (first + n * step) % k) same
+    ap (λ (k : ℕ). number % k) same
 
 renumbered : (a b : Draw) (k number : ℕ) → Some a ≡ Some b → k ≡ number → Some (record a { number = k }) ≡ Some (record b { number = number })
 renumbered a b k number e h =
@@ -54,11 +54,11 @@ no_draw-on (ListOf Random size step values seed position) n later e = cc
 no_draw-on (Tuple ip_min ip_max port_min port_max limit) n later e = refl
 
 -- registers that went on by one turn stand as many packets on as there are cores
-pub is_at-turned : (variable : Variable) (cores n later place stride last place' stride' last' : ℕ) (draw draw' : Option Draw)
-    → IsAt variable cores n place stride last draw
+pub is_at-turned : (variable : Variable) (cores n later place stride last random_last place' stride' last' : ℕ) (draw draw' : Option Draw)
+    → IsAt variable cores n place stride last random_last draw
     → later ≡ n + cores → place' ≡ (place + stride) % (last + 1) → stride' ≡ stride → last' ≡ last → draw' ≡ draw_at variable later
-    → IsAt variable cores later place' stride' last' draw'
-is_at-turned variable cores n later place stride last place' stride' last' draw draw' at on p s l d =
+    → IsAt variable cores later place' stride' last' random_last draw'
+is_at-turned variable cores n later place stride last random_last place' stride' last' draw draw' at on p s l d =
     let course = course_of variable in
     let turned : (place + stride) % (last + 1) ≡ place_at course later =
     rw (at.place_is, at.stride_is, at.last_is, on) (place-turned course n cores) in
@@ -67,5 +67,6 @@ is_at-turned variable cores n later place stride last place' stride' last' draw 
       place_is = p ∙ turned;
       stride_is = s ∙ at.stride_is ∙ ap (λ (k : ℕ). cores * course.step % (k + 1)) (sym l);
       last_is = l ∙ at.last_is;
+      random_last_is = at.random_last_is;
       draw_is = d;
     }

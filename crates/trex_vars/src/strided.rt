@@ -73,6 +73,7 @@ impl<'p> Strided<'p> {
     }
 
     /// The place of the variable's value at this packet.
+    #[inline]
     fn place(&self) -> u64
         ensures value { result ≡ place_of self.now.variable self.now.number }
         ensures within { result ≤ (course_of self.now.variable).last }
@@ -84,6 +85,7 @@ impl<'p> Strided<'p> {
     }
 
     /// The variable's value at this packet.
+    #[inline]
     pub fn value(&self) -> VarValue
         ensures { result ≡ value_at self.now.variable self.now.number }
     {
@@ -91,6 +93,7 @@ impl<'p> Strided<'p> {
     }
 
     /// Goes on to the core's next packet.
+    #[inline]
     pub fn step(&mut self)
         requires { self.old.number + self.old.cores < 2 ^ 63 }
         ensures { self.new ≡ record self.old { number = self.old.number + self.old.cores } }
@@ -102,7 +105,9 @@ impl<'p> Strided<'p> {
         }
     }
 
-    /// Goes to packet `n`. A random variable takes time logarithmic in the number.
+    /// Goes to packet `n`. A random variable takes time logarithmic in the number. Rare, so it stands apart from the loop over packets.
+    #[cold]
+    #[inline(never)]
     pub fn seek(&mut self, n: u64)
         requires { n < 2 ^ 63 }
         ensures { self.new ≡ record self.old { number = n } }

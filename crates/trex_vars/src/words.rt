@@ -34,7 +34,17 @@ impl Model for Words {
 /// The least number of words that are skipped by a jump. Fewer are cheaper one by one.
 const JUMP: u64 = 16;
 
+/// Skips any number of words of a generator. Rare, so it stands apart from the loop over packets.
+#[cold]
+#[inline(never)]
+fn jump(generator: &mut Lcg128Xsl64, skipped: u64)
+    ensures { generator.new ≡ advance 128 multiplier_128 skipped generator.old }
+{
+    generator.advance(u128::from(skipped));
+}
+
 /// Skips some words of a generator.
+#[inline]
 fn skip(generator: &mut Lcg128Xsl64, skipped: u64)
     ensures { generator.new ≡ advance 128 multiplier_128 skipped generator.old }
 {
@@ -43,11 +53,12 @@ fn skip(generator: &mut Lcg128Xsl64, skipped: u64)
             generator.next_word();
         }
     } else {
-        generator.advance(u128::from(skipped));
+        jump(generator, skipped);
     }
 }
 
 /// Skips some words of a generator and draws the next one.
+#[inline]
 fn draw_after(generator: &mut Lcg128Xsl64, skipped: u64) -> u64
     ensures word { (seed position n : ℕ) → generator.old ≡ stands_at seed position n → result ≡ word_at seed position (n + skipped) }
     ensures stands { (seed position n : ℕ) → generator.old ≡ stands_at seed position n
@@ -58,7 +69,9 @@ fn draw_after(generator: &mut Lcg128Xsl64, skipped: u64) -> u64
 }
 
 impl Words {
-    /// The word that is asked for, in time logarithmic in its number.
+    /// The word that is asked for, in time logarithmic in its number. Rare, so it stands apart from the loop over packets.
+    #[cold]
+    #[inline(never)]
     pub(crate) fn at(draw: Draw) -> Words
         ensures { result ≡ draw }
     {
@@ -79,6 +92,7 @@ impl Words {
     }
 
     /// Goes to the word of a number, in time logarithmic in the distance forward, or in the number where it lies behind.
+    #[inline]
     pub(crate) fn go_to(&mut self, number: u64)
         ensures { self.new ≡ record self.old { number = number } }
     {

@@ -12,7 +12,7 @@ invariant_of-self c =
     let variable = variable_of s.spec.now in
     let later = s.number + c.from.result in
     let at = c.self.invariant in
-    let turned = is_at-turned variable s.cores s.number later s.wheel.place s.wheel.stride s.wheel.last c.turn.new.self.place c.turn.new.self.stride c.turn.new.self.last s.words in
+    let turned = is_at-turned variable s.cores s.number later s.wheel.place s.wheel.stride s.wheel.last s.places.last c.turn.new.self.place c.turn.new.self.stride c.turn.new.self.last s.words in
     let on : later ≡ s.number + s.cores = ap (λ (k : ℕ). s.number + k) c.from.ensures in
     elim c.match-self.branch [
       | in-Some w ↦
