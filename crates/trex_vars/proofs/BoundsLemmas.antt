@@ -15,7 +15,7 @@ use Rattle.trex_vars.specs.Value.{back, counted, flows, value_at, word_at}
 use Rattle.trex_vars.specs.Variable.{Variable, Counter, RandLimit, ListOf, Tuple}
 use Rattle.trex_vars.proofs.Modulo.{back-steps}
 use Rattle.trex_vars.proofs.Sound.{no_fault}
-use Rattle.trex_vars.proofs.RegisterTurns.{place-of}
+use Rattle.trex_vars.proofs.RegisterTurns.{mod-last}
 
 -- a list without a fault has a value
 has_value : (values : List ℕ) → ((length values == 0) || nat_lt 4096 (length values)) ≡ false → 0 < length values
@@ -47,30 +47,30 @@ counted-lt Random m first step seed position n pos = mod-lt (word_at seed positi
 pub shown-value : (variable : Variable) (n place : ℕ) → fault_of variable ≡ None → place ≡ place_of variable n → shown variable place ≡ value_at variable n
 unfolding value_at
 shown-value (Counter Inc size init low high step seed position) n place e p =
-    ap (λ (k : ℕ). One (low + k)) (p ∙ place-of (high - low + 1) (init - low + n * step) (omega arith))
+    ap (λ (k : ℕ). One (low + k)) (p ∙ mod-last (high - low + 1) (init - low + n * step) (omega arith))
 shown-value (Counter Dec size init low high step seed position) n place e p =
     let m = high - low + 1 in
-    ap (λ (k : ℕ). One (low + k)) (p ∙ place-of m (init - low + n * back m 0 step) (omega arith) ∙ back-steps m (init - low) n step (omega arith))
+    ap (λ (k : ℕ). One (low + k)) (p ∙ mod-last m (init - low + n * back m 0 step) (omega arith) ∙ back-steps m (init - low) n step (omega arith))
 shown-value (Counter Random size init low high step seed position) n place e p =
-    ap (λ (k : ℕ). One (low + k)) (p ∙ place-of (high - low + 1) (word_at seed position n) (omega arith))
+    ap (λ (k : ℕ). One (low + k)) (p ∙ mod-last (high - low + 1) (word_at seed position n) (omega arith))
 shown-value (RandLimit size low high limit seed position) n place e p = ap (λ (k : ℕ). One (low + k)) p
 shown-value (ListOf Inc size step values seed position) n place e p =
     let pos = has_value values (no_fault (ListOf Inc size step values seed position) e).list in
-    ap (λ (k : ℕ). One (slice_index values k)) (p ∙ place-of (length values) (0 + n * step) pos)
+    ap (λ (k : ℕ). One (slice_index values k)) (p ∙ mod-last (length values) (0 + n * step) pos)
 shown-value (ListOf Dec size step values seed position) n place e p =
     let pos = has_value values (no_fault (ListOf Dec size step values seed position) e).list in
     let m = length values in
-    ap (λ (k : ℕ). One (slice_index values k)) (p ∙ place-of m (0 + n * back m 0 step) pos ∙ back-steps m 0 n step pos)
+    ap (λ (k : ℕ). One (slice_index values k)) (p ∙ mod-last m (0 + n * back m 0 step) pos ∙ back-steps m 0 n step pos)
 shown-value (ListOf Random size step values seed position) n place e p =
     let pos = has_value values (no_fault (ListOf Random size step values seed position) e).list in
-    ap (λ (k : ℕ). One (slice_index values k)) (p ∙ place-of (length values) (word_at seed position n) pos)
+    ap (λ (k : ℕ). One (slice_index values k)) (p ∙ mod-last (length values) (word_at seed position n) pos)
 shown-value (Tuple ip_min ip_max port_min port_max limit) n place e p =
     let addresses = ip_max - ip_min + 1 in
     let pairs = addresses * (port_max - port_min + 1) in
     let some = pairs-some (ip_max - ip_min) (port_max - port_min) in
     let plain : 0 + n * 1 ≡ n = omega arith in
     ap (λ (k : ℕ). Pair (ip_min + k % addresses) (port_min + k / addresses))
-    (p ∙ place-of (flows pairs limit) (0 + n * 1) (flows-within pairs limit some).0 ∙ ap (λ (k : ℕ). k % flows pairs limit) plain)
+    (p ∙ mod-last (flows pairs limit) (0 + n * 1) (flows-within pairs limit some).0 ∙ ap (λ (k : ℕ). k % flows pairs limit) plain)
 
 -- a member of a list is at least the least, and at most the greatest
 fold-min : (first : ℕ) (rest : List ℕ) → fold min first rest ≤ first

@@ -6,7 +6,10 @@ use Rattle.std.specs.Option.{option_map}
 use Rattle.trex_vars.specs.declared.course.Course.{Course}
 use Rattle.trex_vars.specs.declared.draw.Draw.{Draw}
 use Rattle.trex_vars.specs.declared.spec.Op.TheVariants.{Inc, Dec, Random}
-use Rattle.trex_vars.specs.Registers.{IsAt, course_of, draw_at, place_at}
+use Rattle.trex_vars.specs.declared.wheel.Wheel.{Wheel}
+use Rattle.trex_vars.specs.declared.source.Source.TheVariants.{Turning}
+use Rattle.trex_vars.specs.Registers.{course_of, draw_at, place_at}
+use Rattle.trex_vars.specs.Source.{StandsAt}
 use Rattle.trex_vars.specs.Variable.{Variable, Counter, RandLimit, ListOf, Tuple}
 
 -- a turn of so many steps goes on by so many packets
@@ -19,8 +22,8 @@ place-turned course n cores =
     add-mod-mod (far % m) (cores * course.step) m ∙ mod-add-mod far m (cores * course.step) ∙ ap (λ (x : ℕ). x % m) same
 
 -- a number over m places, which go up to m - 1
-pub place-of : (m number : ℕ) → 0 < m → number % (m - 1 + 1) ≡ number % m
-place-of m number pos =
+pub mod-last : (m number : ℕ) → 0 < m → number % (m - 1 + 1) ≡ number % m
+mod-last m number pos =
     let same : m - 1 + 1 ≡ m = omega arith in
     ap (λ (k : ℕ). number % k) same
 
@@ -43,7 +46,7 @@ draw-on (ListOf Random size step values seed position) n later number draw e h =
     renumbered (record { seed = seed; position = position; number = n }) draw later number e h
 draw-on (Tuple ip_min ip_max port_min port_max limit) n later number draw e h = cc
 
-pub no_draw-on : (variable : Variable) (n later : ℕ) → draw_at variable n ≡ None → draw_at variable later ≡ None
+no_draw-on : (variable : Variable) (n later : ℕ) → draw_at variable n ≡ None → draw_at variable later ≡ None
 no_draw-on (Counter Inc size init min max step seed position) n later e = refl
 no_draw-on (Counter Dec size init min max step seed position) n later e = refl
 no_draw-on (Counter Random size init min max step seed position) n later e = cc
@@ -53,20 +56,12 @@ no_draw-on (ListOf Dec size step values seed position) n later e = refl
 no_draw-on (ListOf Random size step values seed position) n later e = cc
 no_draw-on (Tuple ip_min ip_max port_min port_max limit) n later e = refl
 
--- registers that went on by one turn stand as many packets on as there are cores
-pub is_at-turned : (variable : Variable) (cores n later place stride last random_last place' stride' last' : ℕ) (draw draw' : Option Draw)
-    → IsAt variable cores n place stride last random_last draw
-    → later ≡ n + cores → place' ≡ (place + stride) % (last + 1) → stride' ≡ stride → last' ≡ last → draw' ≡ draw_at variable later
-    → IsAt variable cores later place' stride' last' random_last draw'
-is_at-turned variable cores n later place stride last random_last place' stride' last' draw draw' at on p s l d =
+-- a wheel that went on by one turn stands as many packets on as there are cores
+pub turned-on : (variable : Variable) (cores n later : ℕ) (wheel turned : Wheel) → StandsAt variable cores n (Turning wheel) → later ≡ n + cores
+    → turned.place ≡ (wheel.place + wheel.stride) % (wheel.last + 1) → turned.stride ≡ wheel.stride → turned.last ≡ wheel.last
+    → StandsAt variable cores later (Turning turned)
+turned-on variable cores n later wheel turned at on p s l =
     let course = course_of variable in
-    let turned : (place + stride) % (last + 1) ≡ place_at course later =
-    rw (at.place_is, at.stride_is, at.last_is, on) (place-turned course n cores) in
-    record {
-      sound = at.sound;
-      place_is = p ∙ turned;
-      stride_is = s ∙ at.stride_is ∙ ap (λ (k : ℕ). cores * course.step % (k + 1)) (sym l);
-      last_is = l ∙ at.last_is;
-      random_last_is = at.random_last_is;
-      draw_is = d;
-    }
+    let place_is : (wheel.place + wheel.stride) % (wheel.last + 1) ≡ place_at course later =
+    rw (at.0.1, at.1.0, at.1.1, on) (place-turned course n cores) in
+    ((no_draw-on variable n later at.0.0, p ∙ place_is), (s ∙ at.1.0 ∙ ap (λ (k : ℕ). cores * course.step % (k + 1)) (sym l), l ∙ at.1.1))

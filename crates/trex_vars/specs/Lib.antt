@@ -5,3 +5,4 @@ pub mod Bounds
 pub mod Stand
 pub mod Places
 pub mod Registers
+pub mod Source

@@ -1,12 +1,11 @@
 -- The registers that one core keeps for a variable. Own.
-use Rattle.std.specs.Prelude.{◌≡◌, ℕ, ◌+◌, ◌-◌, ◌*◌, ◌/◌, ◌%◌, length, slice_index, Option, None, Some}
+use Rattle.std.specs.Prelude.{ℕ, ◌+◌, ◌-◌, ◌*◌, ◌/◌, ◌%◌, length, slice_index, Option, None, Some}
 use Rattle.trex_vars.specs.declared.draw.Draw.{Draw}
 use Rattle.trex_vars.specs.declared.course.Course.{Course}
 use Rattle.trex_vars.specs.declared.spec.Op.{Op}
 use Rattle.trex_vars.specs.declared.spec.Op.TheVariants.{Inc, Dec, Random}
 use Rattle.trex_vars.specs.declared.value.VarValue.{VarValue}
 use Rattle.trex_vars.specs.declared.value.VarValue.TheVariants.{One, Pair}
-use Rattle.trex_vars.specs.Check.{fault_of}
 use Rattle.trex_vars.specs.Value.{back, flows, word_at}
 use Rattle.trex_vars.specs.Variable.{Variable, Counter, RandLimit, ListOf, Tuple}
 
@@ -61,12 +60,3 @@ shown (RandLimit size min max limit seed position) place = One (min + place)
 shown (ListOf op size step values seed position) place = One (slice_index values place)
 shown (Tuple ip_min ip_max port_min port_max limit) place =
     let addresses = ip_max - ip_min + 1 in Pair (ip_min + place % addresses) (port_min + place / addresses)
-
--- the registers of one of some cores at packet n of a variable
-pub record IsAt (variable : Variable) (cores number place stride last random_last : ℕ) (draw : Option Draw) : Type 0 where
-  pub sound : fault_of variable ≡ None
-  pub place_is : place ≡ place_at (course_of variable) number
-  pub stride_is : stride ≡ cores * (course_of variable).step % (last + 1)
-  pub last_is : last ≡ (course_of variable).last
-  pub random_last_is : random_last ≡ (course_of variable).last
-  pub draw_is : draw ≡ draw_at variable number

@@ -8,6 +8,7 @@ mod faults;
 mod laws;
 mod places;
 mod shown;
+mod source;
 mod spec;
 mod strided;
 mod value;

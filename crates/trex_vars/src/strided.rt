@@ -10,6 +10,7 @@ use crate::course::Course;
 use crate::draw::{draw_at, word_number};
 use crate::places::Places;
 use crate::shown::value_from;
+use crate::source::Source;
 use crate::spec::VarSpec;
 use crate::value::VarValue;
 use crate::wheel::Wheel;
@@ -23,22 +24,19 @@ pub struct Strided<'p> {
     spec: &'p VarSpec,
     cores: u32,
     number: u64,
-    wheel: Wheel,
-    words: Option<Words>,
-    /// The places that the words fall on.
-    places: Places,
+    source: Source,
 }
 
 impl<'p> Model for Strided<'p> {
     ghost use Rattle.trex_vars.specs.Stand.{Stand};
-    ghost use Rattle.trex_vars.specs.Registers.{IsAt};
+    ghost use Rattle.trex_vars.specs.Source.{IsAt};
     ghost use Rattle.trex_vars.specs.Variable.{variable_of};
 
     ghost Value = { Stand };
 
     ghost view = { λ s. record { variable = variable_of s.spec.now; cores = s.cores; number = s.number } };
 
-    ghost invariant = { λ s. IsAt (variable_of s.spec.now) s.cores s.number s.wheel.place s.wheel.stride s.wheel.last s.places.last s.words };
+    ghost invariant = { λ s. IsAt (variable_of s.spec.now) s.cores s.number s.source };
 }
 
 impl<'p> Strided<'p> {
@@ -49,26 +47,17 @@ impl<'p> Strided<'p> {
         requires cores { cores ≤ 64 }
         ensures { result ≡ record { variable = variable_of spec.now; cores = cores; number = core } }
     {
-        let places = Places::up_to(Course::of(spec).last);
-        Strided::at(spec, places, cores, u64::from(core))
-    }
-
-    /// The values at packet `number`, for one of `cores` cores.
-    fn at(spec: &'p VarSpec, places: Places, cores: u32, number: u64) -> Strided<'p>
-        requires sound { fault_of (variable_of spec.now) ≡ None }
-        requires places { places.last ≡ (course_of (variable_of spec.now)).last }
-        requires number { number < 2 ^ 63 }
-        ensures { result ≡ record { variable = variable_of spec.now; cores = cores; number = number } }
-    {
-        let wheel = Wheel::at(Course::of(spec), number, cores);
-        let words = draw_at(spec, number).map(Words::at);
+        let course = Course::of(spec);
+        let number = u64::from(core);
+        let source = match draw_at(spec, number) {
+            Some(draw) => Source::Drawn(Words::at(draw), Places::up_to(course.last)),
+            None => Source::Turning(Wheel::at(course, number, cores)),
+        };
         Strided {
             spec,
             cores,
             number,
-            wheel,
-            words,
-            places,
+            source,
         }
     }
 
@@ -78,9 +67,9 @@ impl<'p> Strided<'p> {
         ensures value { result ≡ place_of self.now.variable self.now.number }
         ensures within { result ≤ (course_of self.now.variable).last }
     {
-        match &self.words {
-            Some(words) => self.places.within(words.word()),
-            None => self.wheel.place(),
+        match &self.source {
+            Source::Turning(wheel) => wheel.place(),
+            Source::Drawn(words, places) => places.within(words.word()),
         }
     }
 
@@ -99,9 +88,9 @@ impl<'p> Strided<'p> {
         ensures { self.new ≡ record self.old { number = self.old.number + self.old.cores } }
     {
         self.number += u64::from(self.cores);
-        self.wheel.turn();
-        if let Some(words) = &mut self.words {
-            words.go_to(word_number(self.spec, self.number));
+        match &mut self.source {
+            Source::Turning(wheel) => wheel.turn(),
+            Source::Drawn(words, _) => words.go_to(word_number(self.spec, self.number)),
         }
     }
 
@@ -112,6 +101,10 @@ impl<'p> Strided<'p> {
         requires { n < 2 ^ 63 }
         ensures { self.new ≡ record self.old { number = n } }
     {
-        *self = Strided::at(self.spec, self.places, self.cores, n);
+        self.number = n;
+        match &mut self.source {
+            Source::Turning(wheel) => *wheel = Wheel::at(Course::of(self.spec), n, self.cores),
+            Source::Drawn(words, _) => words.go_to(word_number(self.spec, n)),
+        }
     }
 }
