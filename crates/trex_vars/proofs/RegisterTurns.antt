@@ -1,7 +1,7 @@
 -- Registers that go on from packet to packet.
 use Rattle.std.proofs.Common.{◌≡◌, ℕ, ◌+◌, ◌-◌, ◌*◌, ◌%◌, ◌<◌, refl, sym, ap, ◌∙◌, arith}
 use Rattle.std.proofs.Math.Nat.{add-mod-mod, mod-add-mod}
-use Rattle.std.specs.Prelude.{Option, None, Some, IfSome}
+use Rattle.std.specs.Prelude.{None, Some, IfSome}
 use Rattle.std.specs.Option.{option_map}
 use Rattle.trex_vars.specs.declared.course.Course.{Course}
 use Rattle.trex_vars.specs.declared.draw.Draw.{Draw}

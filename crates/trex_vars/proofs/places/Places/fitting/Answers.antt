@@ -1,4 +1,4 @@
-use Rattle.std.proofs.Common.{◌≡◌, ℕ, ◌+◌, ◌*◌, ◌/◌, ◌<◌, ◌≤◌, sym, ap, ◌∙◌, arith}
+use Rattle.std.proofs.Common.{◌+◌, ◌/◌, arith}
 use Rattle.trex_vars.proofs.Quotients.{guess-least, guess-most, reciprocal-fits, reciprocal-near}
 use Rattle.trex_vars.proofs.places.Places.fitting.Goals as goal
 

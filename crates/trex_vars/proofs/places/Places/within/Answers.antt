@@ -1,4 +1,4 @@
-use Rattle.std.proofs.Common.{◌≡◌, ◌+◌, ◌-◌, ◌*◌, arith}
+use Rattle.std.proofs.Common.{◌+◌, arith}
 use Rattle.trex_vars.proofs.Quotients.{rest-mod}
 use Rattle.trex_vars.proofs.places.Places.within.Goals as goal
 
