@@ -51,7 +51,7 @@ impl Places {
 mod tests {
     use super::Places;
 
-    /// The last place, a word, and its place.
+    /// The last place, a word, and its place: of 1, 2, 3, 7, 2^32, 2^63, 2^63 + 1, 2^64 - 1 and 2^64 places.
     const ROWS: [(u64, u64, u64); 39] = [
         (0, 0, 0),
         (0, 1, 0),
