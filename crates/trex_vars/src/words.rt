@@ -34,7 +34,7 @@ impl Model for Words {
 /// The least number of words that are skipped by a jump. Fewer are cheaper one by one.
 const JUMP: u64 = 16;
 
-/// Skips any number of words of a generator. Rare, so it stands apart from the loop over packets.
+/// Skips many words of a generator. It stands apart, so that the loop over the packets of a few cores stays small.
 #[cold]
 #[inline(never)]
 fn jump(generator: &mut Lcg128Xsl64, skipped: u64)
