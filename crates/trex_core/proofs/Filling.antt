@@ -15,12 +15,6 @@ pub none_is : {X : Type 0} (xs : List X) → None ≡ slice_get xs 0 → xs ≡ 
 none_is [] next = refl
 none_is (y ∷ xs) next = cc
 
--- it goes from the front of those to come to the end of those that wait
-pub moved : (frame : Slot → Frame) (w : List Frame) (slots : List Slot) (slot : Slot) → Some slot ≡ slice_get slots 0
-    → (w ++ frame slot ∷ []) ++ map frame (drop 1 slots) ≡ w ++ map frame slots
-moved frame w slots slot next =
-    append_assoc w (frame slot ∷ []) (map frame (drop 1 slots)) ∙ ap (λ xs. w ++ map frame xs) (sym (first_is slots slot next))
-
 -- where there is no room for it, what waits is the batch
 pub full_is : (frame : Slot → Frame) (w : List Frame) (slots : List Slot) (slot : Slot) → IsWithin w → Some slot ≡ slice_get slots 0
     → has_room_for w (length (frame slot).bytes) ≡ false → batch_of (w ++ map frame slots) ≡ w

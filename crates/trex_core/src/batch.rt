@@ -8,7 +8,7 @@ ghost use Rattle.trex_core.specs.Records.{frame_with, text_length, waiting_of};
 ghost use Rattle.trex_core.specs.Texts.{records_text};
 ghost use Rattle.trex_merge.specs.Frames.{Frame, frame_of, key_of};
 ghost use Rattle.trex_merge.specs.Queues.{is_none_left};
-ghost use Rattle.trex_merge.specs.Runs.{run_length, stands_before};
+ghost use Rattle.trex_merge.specs.Runs.{run_length};
 ghost use Rattle.trex_pcap.specs.Writing.{record_of};
 ghost use Rattle.trex_stamp.specs.Stamp.{IsStamp};
 ghost use Rattle.trex_vm.specs.Packet.{after_all, stamped, version_of};
@@ -19,7 +19,7 @@ use crate::waiting::Waiting;
 use std::alloc::Global;
 use std::marker::Model;
 use trex_io::Memory;
-use trex_merge::{Head, Key, is_before};
+use trex_merge::{Head, Key, stands_before};
 use trex_pcap::record_header;
 use trex_stamp::Stamp;
 use trex_vars::VarValue;
@@ -234,16 +234,6 @@ fn add_record(
     let at = text.len();
     text.extend_from_slice(front).unwrap();
     finish_packet(program, values, stamp, &mut text[at..]);
-}
-
-/// Whether a packet stands before a key, or there is none.
-fn stands_before(key: &Key, before: Option<Key>) -> bool
-    ensures { result ≡ stands_before key.now before }
-{
-    match before {
-        Some(other) => is_before(key, &other),
-        None => true,
-    }
 }
 
 /// The first packets, at most so many.

@@ -59,7 +59,8 @@ impl Register<'_> {
     }
 }
 
-/// Moves to a packet.
+/// Moves to a packet. Each packet has a move for each of its variables, so the call itself would count.
+#[inline(always)]
 fn go(strided: &mut Strided<'_>, by: Move)
     requires { end_of by strided.old.number strided.old.cores < 2 ^ 63 }
     ensures { strided.new ≡ record strided.old { number = end_of by strided.old.number strided.old.cores } }

@@ -1,7 +1,8 @@
 // What packets are ordered by, and the order.
 
 ghost use Rattle.std.specs.Prelude.{◌≡◌};
-ghost use Rattle.trex_merge.specs.Order.{is_before as stands_before};
+ghost use Rattle.trex_merge.specs.Order.{is_before};
+ghost use Rattle.trex_merge.specs.Runs.{stands_before};
 ghost use Rattle.trex_merge.specs.declared.key.Key.{Key};
 
 /// What a packet is ordered by: its time first, then its stream, then its number.
@@ -35,7 +36,17 @@ impl Keyed for Key {
 
 /// Whether a packet comes before another: by time, then by stream, then by number.
 pub fn is_before(a: &Key, b: &Key) -> bool
-    ensures { result ≡ stands_before a.now b.now }
+    ensures { result ≡ is_before a.now b.now }
 {
     (a.time, a.stream, a.number) < (b.time, b.stream, b.number)
+}
+
+/// Whether a packet comes before another, or there is no other.
+pub fn stands_before(key: &Key, other: Option<Key>) -> bool
+    ensures { result ≡ stands_before key.now other }
+{
+    match other {
+        Some(other) => is_before(key, &other),
+        None => true,
+    }
 }

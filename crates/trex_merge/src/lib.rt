@@ -12,7 +12,7 @@ mod place;
 
 pub use feed::Feed;
 pub use head::Head;
-pub use key::{Key, Keyed, is_before};
+pub use key::{Key, Keyed, is_before, stands_before};
 pub use merge_laws::{
     any_events, events_keep_the_mill, events_keep_the_shares, frames_follow, runs_are_emissions,
     shares_are_all, what_comes_next,

@@ -2,7 +2,6 @@
 
 ghost use Rattle.std.specs.Prelude.{◌≡◌, ◌<◌, IfOk, length, map, slice_set};
 ghost use Rattle.trex_merge.specs.Queues.{next_of};
-ghost use Rattle.trex_merge.specs.Runs.{stands_before};
 ghost use Rattle.trex_run.specs.Firsts.{IsBound, first_at, firsts_of, led};
 ghost use Rattle.trex_run.specs.Ready.{queues_of};
 
@@ -10,7 +9,7 @@ use std::alloc::Global;
 use std::marker::Model;
 use trex_core::CoreWork;
 use trex_io::Memory;
-use trex_merge::{Feed, Key, Next, is_before};
+use trex_merge::{Feed, Key, Next, stands_before};
 
 /// What comes next; and where it is a packet, the least key of those that wait first at all other cores.
 #[derive(Clone, Copy, Drop)]
@@ -25,16 +24,6 @@ struct Lead {
     least: Option<Key>,
     feed: usize,
     before: Option<Key>,
-}
-
-/// Whether a key stands before another, or there is no other.
-fn stands_before(key: &Key, other: Option<Key>) -> bool
-    ensures { result ≡ stands_before key.now other }
-{
-    match other {
-        Some(other) => is_before(key, &other),
-        None => true,
-    }
 }
 
 /// The same with the key of one core more, which stands before the least of the others, if any.
