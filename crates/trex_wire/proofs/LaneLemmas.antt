@@ -9,7 +9,6 @@ use Rattle.trex_merge.specs.Order.{AreApart, AreDistinct, Has, HaveSame, ordered
 use Rattle.trex_merge.proofs.FrameLemmas.{map-filter}
 use Rattle.trex_merge.proofs.OrderLemmas.{all_at, all_from, filter-ordered, ordered_is_only, pairs-filter, rising-ordered, same-ordered}
 use Rattle.trex_merge.proofs.ListLemmas.{all-append, pairs-append}
-use Rattle.trex_stamp.specs.declared.header.Stamp.{Stamp}
 use Rattle.trex_stats.specs.Counts.{glimpse_by, stamp_at, stamped_of}
 use Rattle.trex_stats.specs.declared.glimpse.Glimpse.{Glimpse}
 use Rattle.trex_stats.specs.declared.glimpse.Glimpse.TheVariants.{Plain, Stamped}
@@ -69,23 +68,30 @@ filter_kept p a ks is = ap (λ (t : Bool). cond t (a ∷ filter p ks) (filter p 
 filter_left : (p : Key → Bool) (a : Key) (ks : List Key) → p a ≡ false → filter p (a ∷ ks) ≡ filter p ks
 filter_left p a ks is = ap (λ (t : Bool). cond t (a ∷ filter p ks) (filter p ks)) is
 
--- one record more, with this stamp or none
-moved_in_front : (ask : WireSpec) (p : Key → Bool) (i time : ℕ) (o : Option Stamp) (rest : List Key) (first second : List Due)
-    → p (arrival ask i time 0) ≡ is_some o → p (arrival ask i time 1) ≡ is_some o → IsPermutation (filter p rest) (both first second)
+abbrev counts_for_flow : Glimpse → Bool
+counts_for_flow Plain = false
+counts_for_flow (Stamped flow sequence sent) = true
+
+stamped_counts : (r : Seen) → is_some (stamp_at r) ≡ counts_for_flow (glimpse_at r)
+stamped_counts r = elim (stamp_at r) as (λ o. is_some o ≡ counts_for_flow (glimpse_by o)) [ None ↦ refl | Some s ↦ refl ]
+
+-- one record more, of which the counts take this
+moved_in_front : (ask : WireSpec) (p : Key → Bool) (i time : ℕ) (glimpse : Glimpse) (rest : List Key) (first second : List Due)
+    → p (arrival ask i time 0) ≡ counts_for_flow glimpse → p (arrival ask i time 1) ≡ counts_for_flow glimpse → IsPermutation (filter p rest) (both first second)
     → IsPermutation (filter p (map (arrival ask i time) (range_with_len 0 (copies ask i)) ++ rest))
-    (both (came_by ask 0 i time (glimpse_by o) (word_at ask.seed 0 (3 * i)) (word_at ask.seed 0 (3 * i + 1 + 0)) ++ first) (came_by ask 1 i time (glimpse_by o) (word_at ask.seed 0 (3 * i)) (word_at ask.seed 0 (3 * i + 1 + 1)) ++ second))
-moved_in_front ask p i time None rest first second left other later =
+    (both (came_by ask 0 i time glimpse (word_at ask.seed 0 (3 * i)) (word_at ask.seed 0 (3 * i + 1 + 0)) ++ first) (came_by ask 1 i time glimpse (word_at ask.seed 0 (3 * i)) (word_at ask.seed 0 (3 * i + 1 + 1)) ++ second))
+moved_in_front ask p i time Plain rest first second left other later =
     let a = arrival ask i time 0 in
     let b = arrival ask i time 1 in
     let P : List Key → Type 0 = λ ks. IsPermutation ks (both first second) in
     copies_any (λ (c : ℕ). IsPermutation (filter p (map (arrival ask i time) (range_with_len 0 c) ++ rest)) (both (cond (nat_lt 0 c) [] [] ++ first) (cond (nat_lt 1 c) [] [] ++ second))) ask
     (word_at ask.seed 0 (3 * i)) later (subst P (sym (filter_left p a rest left)) later)
     (subst P (sym (filter_left p a (b ∷ rest) left ∙ filter_left p b rest other)) later)
-moved_in_front ask p i time (Some s) rest first second kept again later =
+moved_in_front ask p i time (Stamped flow sequence sent) rest first second kept again later =
     let a = arrival ask i time 0 in
     let b = arrival ask i time 1 in
-    let due_a = due_of a.time i (glimpse_by (Some s)) in
-    let due_b = due_of b.time i (glimpse_by (Some s)) in
+    let due_a = due_of a.time i (Stamped flow sequence sent) in
+    let due_b = due_of b.time i (Stamped flow sequence sent) in
     let others = map (key_in 0) first in
     let behind = map (key_in 1) second in
     let ks = filter p rest in
@@ -103,8 +109,8 @@ arrivals_moved : (ask : WireSpec) (all : List Seen) (i : ℕ) (rs : List Seen) �
 arrivals_moved ask all i [] ends = IsPermutation-refl []
 arrivals_moved ask all i (r ∷ rs) ends =
     let here = end_first all i r rs ends in
-    let as_sent = λ (j : ℕ). ap (λ (o : Option Seen). is_some (stamp_at (seen_then (arrival ask i r.time j).time o))) here in
-    moved_in_front ask (is_stamped_in all) i r.time (stamp_at r) (arrivals ask (i + 1) rs) (lane ask 0 (i + 1) rs) (lane ask 1 (i + 1) rs) (as_sent 0) (as_sent 1)
+    let as_sent = λ (j : ℕ). ap (λ (o : Option Seen). is_some (stamp_at (seen_then (arrival ask i r.time j).time o))) here ∙ stamped_counts r in
+    moved_in_front ask (is_stamped_in all) i r.time (glimpse_at r) (arrivals ask (i + 1) rs) (lane ask 0 (i + 1) rs) (lane ask 1 (i + 1) rs) (as_sent 0) (as_sent 1)
     (arrivals_moved ask all (i + 1) rs (end_later all i r rs ends))
 
 -- Two lists have what the lanes have, in any order.

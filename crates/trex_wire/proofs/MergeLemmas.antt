@@ -1,5 +1,5 @@
 -- The merge of two lanes, of which all copies wait.
-use Rattle.std.proofs.Common.{◌≡◌, ℕ, zero, suc, ◌+◌, ◌-◌, ◌<◌, ◌≤◌, ◌&&◌, not, true, Option, Some, None, List, [], ◌∷◌, ◌++◌, append-nil, get_or, length, map, take, refl, sym, ap, ◌∙◌, subst, arith, length-append}
+use Rattle.std.proofs.Common.{◌≡◌, ℕ, zero, suc, ◌+◌, ◌-◌, ◌<◌, ◌≤◌, ◌&&◌, not, true, Option, Some, None, List, [], ◌∷◌, ◌++◌, append-nil, get_or, length, map, set, take, refl, sym, ap, ◌∙◌, subst, arith, length-append}
 use Rattle.std.proofs.lemmas.List.{length-map, map-append, take_all}
 use Rattle.std.specs.List.{AllByRecursion, slice_get}
 use Rattle.trex_io.specs.Seen.{Seen}
@@ -143,18 +143,23 @@ seen_frames : (rs : List Seen) (ks : List Key) → map (seen_of rs) (map frame_a
 seen_frames rs [] = refl
 seen_frames rs (k ∷ ks) = ap (λ (l : List Seen). seen_at rs k ∷ l) (seen_frames rs ks)
 
-pub all_sent : (keys : List Key) (H : List Seen → Type 0) (queues : List Queue) (sent limit : ℕ) (c : Counts) → limit ≡ length keys
-    → IsAt (map frame_at keys) H queues sent limit c → next_of (limit - sent) queues ≡ End
-    → (rs : List Seen) → H rs → CountsFor c (map (seen_at rs) (ordered (λ k. k) keys))
-all_sent keys H queues sent limit c enough is next rs kept =
-    let frames = map frame_at keys in
-    let state : MillState = record { queues = queues; sent = is.list; limit = limit } in
-    let here : next_of (limit - length is.list) queues ≡ End = subst (λ (n : ℕ). next_of (limit - n) queues ≡ End) (sym is.count) next in
-    let whole : is.list ≡ take limit (ordered key_of frames) = sent_whole frames state is.mill ((end_is_ended state).0 here) in
-    let short : length (ordered key_of frames) ≤ limit = omega (arith, length-ordered key_of frames, length-map keys frame_at, enough) in
-    let list : is.list ≡ map frame_at (ordered (λ k. k) keys) =
-    whole ∙ take_all limit (ordered key_of frames) short ∙ sym (map-ordered (λ k. k) key_of frame_at (λ k. refl) keys) in
-    subst (CountsFor c) (ap (map (seen_of rs)) list ∙ seen_frames rs (ordered (λ k. k) keys)) (is.stands rs kept)
+module _ (keys : List Key) (H : List Seen → Type 0) (queues : List Queue) (sent limit : ℕ) (c : Counts) (enough : limit ≡ length keys)
+  (is : IsAt (map frame_at keys) H queues sent limit c) (next : next_of (limit - sent) queues ≡ End) where
+  sent_list : is.list ≡ map frame_at (ordered (λ k. k) keys)
+  sent_list =
+      let frames = map frame_at keys in
+      let state : MillState = record { queues = queues; sent = is.list; limit = limit } in
+      let here : next_of (limit - length is.list) queues ≡ End = subst (λ (n : ℕ). next_of (limit - n) queues ≡ End) (sym is.count) next in
+      let whole : is.list ≡ take limit (ordered key_of frames) = sent_whole frames state is.mill ((end_is_ended state).0 here) in
+      let short : length (ordered key_of frames) ≤ limit = omega (arith, length-ordered key_of frames, length-map keys frame_at, enough) in
+      whole ∙ take_all limit (ordered key_of frames) short ∙ sym (map-ordered (λ k. k) key_of frame_at (λ k. refl) keys)
+
+  pub all_sent : (rs : List Seen) → H rs → CountsFor c (map (seen_at rs) (ordered (λ k. k) keys))
+  all_sent rs kept = subst (CountsFor c) (ap (map (seen_of rs)) sent_list ∙ seen_frames rs (ordered (λ k. k) keys)) (is.stands rs kept)
+
+  pub all_recorded : c.records ≡ length keys
+  all_recorded =
+      omega (arith, is.records, is.count, ap length sent_list, length-map (ordered (λ k. k) keys) frame_at, length-ordered (λ k. k) keys)
 
 -- ---- the copy that comes next
 

@@ -1,9 +1,9 @@
-use Rattle.std.proofs.Common.{◌≡◌, List, [], length, map, refl, sym, ◌∙◌, arith, length-append}
+use Rattle.std.proofs.Common.{◌≡◌, ◌+◌, List, [], length, map, refl, sym, ◌∙◌, arith, length-append}
 use Rattle.std.proofs.lemmas.List.{length-map}
 use Rattle.trex_io.specs.Seen.{Seen}
 use Rattle.trex_stats.specs.Counts.{CountsFor}
 use Rattle.trex_wire.specs.Lanes.{AreOf, both, frame_at, key_in, queue_of}
-use Rattle.trex_wire.proofs.MergeLemmas.{all_sent, begun, none_needed, one_more}
+use Rattle.trex_wire.proofs.MergeLemmas.{all_recorded, all_sent, begun, none_needed, one_more}
 use Rattle.trex_wire.proofs.merge.merge.Goals as goal
 
 pub sent-init : goal.sent-init
@@ -48,3 +48,12 @@ returns-in-End-clause-counts c rs one two =
     let enough : c.sent.mill.limit ≡ length (both first second) =
     omega (arith, c.sent.invariant.limit, length-append (map (key_in 0) first) (map (key_in 1) second), length-map first (key_in 0), length-map second (key_in 1)) in
     all_sent (both first second) (λ rs. AreOf rs first × AreOf rs second) (map queue_of c.sent.lanes) c.sent.mill.sent c.sent.mill.limit c.sent.stats enough c.sent.invariant.at (sym c.in-End.ensures) rs (one, two)
+
+pub returns-in-End-clause-records : goal.returns-in-End-clause-records
+returns-in-End-clause-records c =
+    let first = c.args.first.now in
+    let second = c.args.second.now in
+    let long : length (both first second) ≡ length first + length second =
+    omega (arith, length-append (map (key_in 0) first) (map (key_in 1) second), length-map first (key_in 0), length-map second (key_in 1)) in
+    all_recorded (both first second) (λ rs. AreOf rs first × AreOf rs second) (map queue_of c.sent.lanes) c.sent.mill.sent c.sent.mill.limit c.sent.stats (c.sent.invariant.limit ∙ sym long)
+    c.sent.invariant.at (sym c.in-End.ensures) ∙ long
