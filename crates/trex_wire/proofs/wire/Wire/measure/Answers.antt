@@ -6,7 +6,23 @@ use Rattle.trex_wire.specs.Sent.{Carries, Sent}
 use Rattle.trex_wire.specs.Wired.{bytes_of, wire_counts, wired}
 use Rattle.trex_wire.proofs.CountLemmas.{lanes_arrive, lanes_short, nothing_lost, stands_whole}
 use Rattle.trex_wire.proofs.LaneLemmas.{are_moved, both_distinct, lane_distinct, lane_of_moved, wired_stamped}
+use Rattle.trex_wire.proofs.StepLemmas.{few_copies}
 use Rattle.trex_wire.proofs.wire.Wire.measure.Goals as goal
+
+pub overflow_add-counts : goal.overflow_add-counts
+overflow_add-counts c =
+    let w = c.self.inside in
+    omega (
+      arith,
+      c.len.ensures,
+      c.len-2.ensures,
+      c.sort_lane.new.lane.ok.0,
+      c.sort_lane-2.new.lane.ok.0,
+      length_permutation w.lanes.first.items _ c.sort_lane.ensures.permutation,
+      length_permutation w.lanes.second.items _ c.sort_lane-2.ensures.permutation,
+      few_copies _ c.self.invariant.3.0 c.self.invariant.3.1,
+      c.self.invariant.1,
+    )
 
 pub merge-requires-clause-few : goal.merge-requires-clause-few
 merge-requires-clause-few c =
@@ -83,8 +99,9 @@ returns-clause-counts c rs carries =
     c.sort_lane.ensures.permutation c.sort_lane-2.ensures.permutation c.deref.ensures.value c.deref-2.ensures.value in
     let arrived : c.len.result + c.len-2.result + w.lanes.plain ≡ length (wired rs w.ask) =
     omega (arith, c.len.ensures, c.len-2.ensures, c.deref.ensures.len, c.deref-2.ensures.len, held.plain, lanes_arrive w.ask rs c.deref.result.now c.deref-2.result.now lanes) in
-    let counts : WireCounts = record { sent = w.sent; lost = w.lanes.lost; copied = w.lanes.copied; arrived = c.len.result + c.len-2.result + w.lanes.plain } in
-    let same : counts ≡ wire_counts rs w.ask = rw (held.sent, held.lost, held.copied, arrived) refl in
+    let counts : WireCounts = record { sent = c.from.result; lost = w.lanes.lost; copied = w.lanes.copied; arrived = c.len.result + c.len-2.result + w.lanes.plain } in
+    let sent : c.from.result ≡ length rs = c.from.ensures ∙ held.sent in
+    let same : counts ≡ wire_counts rs w.ask = rw (sent, held.lost, held.copied, arrived) refl in
     subst (λ (s : Sent). counts ≡ wire_counts rs s.ask) c.self.view_is same
 
 pub returns-clause-conserved : goal.returns-clause-conserved
@@ -102,6 +119,7 @@ returns-clause-conserved c =
       c.deref-2.ensures.len,
       lanes_arrive w.ask rs c.deref.result.now c.deref-2.result.now lanes,
       nothing_lost w.ask rs,
+      c.from.ensures,
       held.sent,
       held.plain,
       held.lost,
