@@ -144,7 +144,7 @@ seen_frames rs [] = refl
 seen_frames rs (k ∷ ks) = ap (λ (l : List Seen). seen_at rs k ∷ l) (seen_frames rs ks)
 
 module _ (keys : List Key) (H : List Seen → Type 0) (queues : List Queue) (sent limit : ℕ) (c : Counts) (enough : limit ≡ length keys)
-  (is : IsAt (map frame_at keys) H queues sent limit c) (next : next_of (limit - sent) queues ≡ End) where
+    (is : IsAt (map frame_at keys) H queues sent limit c) (next : next_of (limit - sent) queues ≡ End) where
   sent_list : is.list ≡ map frame_at (ordered (λ k. k) keys)
   sent_list =
       let frames = map frame_at keys in

@@ -94,7 +94,8 @@ impl Wire {
         self.lanes.make_room(glimpse)?;
         let words = draw_three(&mut self.generator);
         let captured = bytes.len() as u64;
-        self.lanes.put(self.ask, time, self.sent, glimpse, captured, words);
+        self.lanes
+            .put(self.ask, time, self.sent, glimpse, captured, words);
         self.sent += 1;
         Ok(())
     }

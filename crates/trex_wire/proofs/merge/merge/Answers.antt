@@ -1,6 +1,5 @@
-use Rattle.std.proofs.Common.{◌≡◌, ◌+◌, List, [], length, map, refl, sym, ◌∙◌, arith, length-append}
+use Rattle.std.proofs.Common.{◌≡◌, ◌+◌, [], length, map, refl, sym, ◌∙◌, arith, length-append}
 use Rattle.std.proofs.lemmas.List.{length-map}
-use Rattle.trex_io.specs.Seen.{Seen}
 use Rattle.trex_stats.specs.Counts.{CountsFor}
 use Rattle.trex_wire.specs.Lanes.{AreOf, both, frame_at, key_in, queue_of}
 use Rattle.trex_wire.proofs.MergeLemmas.{all_recorded, all_sent, begun, none_needed, one_more}

@@ -1,9 +1,9 @@
-use Rattle.std.proofs.Common.{◌≡◌, ℕ, ◌-◌, ◌<◌, ◌++◌, ◌∷◌, [], List, get_or, length, map, sym, subst, ap, ◌∙◌, arith}
+use Rattle.std.proofs.Common.{ℕ, ◌-◌, ◌<◌, ◌++◌, ◌∷◌, [], List, get_or, length, map, sym, subst, ap, ◌∙◌, arith}
 use Rattle.std.proofs.lemmas.List.{length-map}
 use Rattle.std.specs.List.{slice_get}
 use Rattle.trex_merge.specs.Frames.{Frame}
 use Rattle.trex_merge.specs.Queues.{popped}
-use Rattle.trex_merge.proofs.QueueLemmas.{more_left, packet_is_least}
+use Rattle.trex_merge.proofs.QueueLemmas.{packet_is_least}
 use Rattle.trex_merge.proofs.FeedLemmas.{feed_waits, feed_within, map-at_place}
 use Rattle.trex_stats.specs.Counts.{CountsFor}
 use Rattle.trex_wire.specs.declared.lanes.Due.{Due}
