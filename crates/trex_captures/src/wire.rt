@@ -31,6 +31,15 @@ const SOME: &str =
     FlowLine { flow: 1, received: 270, duplicates: 12, lost: 75, reordered: 240, early: 0, least: 194015, greatest: 2847065, sum: 413112357 } \
     FlowLine { flow: 2, received: 270, duplicates: 12, lost: 75, reordered: 243, early: 0, least: 45549, greatest: 2923479, sum: 412187950 }";
 
+const MANY: &str =
+    "WireCounts { sent: 1000, lost: 299, copied: 345, arrived: 1046 } Totals { records: 1046, bytes: 16736, stamped: 885 } \
+    FlowLine { flow: 0, received: 301, duplicates: 100, lost: 133, reordered: 84, early: 0, least: 19788, greatest: 1020293, sum: 156869805 } \
+    FlowLine { flow: 1, received: 286, duplicates: 95, lost: 139, reordered: 80, early: 0, least: 11988, greatest: 995690, sum: 142884554 } \
+    FlowLine { flow: 2, received: 298, duplicates: 96, lost: 131, reordered: 98, early: 0, least: 3445, greatest: 1015077, sum: 145057624 }";
+
+const UNSTAMPED: &str =
+    "WireCounts { sent: 3, lost: 0, copied: 3, arrived: 6 } Totals { records: 6, bytes: 96, stamped: 0 }";
+
 /// What is asked (seed, loss, copy, delay), and what is measured.
 type Row<'a> = (u64, u32, u32, u64, &'a str);
 
@@ -101,6 +110,20 @@ fn what_a_wire_gives_is_measured(rt: HostRuntime) -> Result<(), Fail> {
 }
 
 #[test]
+fn records_that_count_for_no_flow_are_only_counted(rt: HostRuntime) -> Result<(), Fail> {
+    let mut capture = Vec::from_slice(rt.alloc(), &header())?;
+    for micros in [7, 14, 21] {
+        put(&mut capture, micros, 1, 0)?;
+    }
+    look(
+        &rt,
+        rt.alloc(),
+        &capture,
+        &[(3, 0, 1_000_000, 1_000_000, UNSTAMPED)],
+    )
+}
+
+#[test]
 fn a_thousand_records_are_measured(rt: HostRuntime) -> Result<(), Fail> {
     let mut capture = Vec::from_slice(rt.alloc(), &header())?;
     for number in 0..1_000u16 {
@@ -119,6 +142,7 @@ fn a_thousand_records_are_measured(rt: HostRuntime) -> Result<(), Fail> {
     )?;
     let rows = [
         (5, 100_000, 50_000, 2_000_000, SOME),
+        (11, 300_000, 500_000, 30_000, MANY),
         (9, 0, 0, 0, same.as_str()),
     ];
     look(&rt, rt.alloc(), &capture, &rows)

@@ -1,8 +1,8 @@
 -- What one more record makes of the counts, and the lines of what is kept.
-use Rattle.std.proofs.Common.{◌≡◌, ℕ, zero, suc, ◌+◌, ◌<◌, slice_index_or, ◌==◌, List, [], ◌∷◌, ◌++◌, length, refl, sym, ap, ◌∙◌, subst, arith, Bool, true, false, ◌||◌, nat_eq, IsTrue, ◌↔◌, inl, inr, Option, Some, None, MatchOption, is_some, append-nil, length-append, if◌then◌else◌}
+use Rattle.std.proofs.Common.{◌≡◌, ℕ, zero, suc, ◌+◌, ◌<◌, slice_index_or, ◌==◌, List, [], ◌∷◌, ◌++◌, length, refl, sym, ap, ◌∙◌, subst, arith, Bool, true, false, ◌||◌, nat_eq, IsTrue, ◌↔◌, inl, inr, Option, Some, None, MatchOption, is_some, count_by, append-nil, length-append, if◌then◌else◌}
 use Rattle.std.proofs.lemmas.Bool.{cases_lt, eq-eqb, ne_eqb}
 use Rattle.std.proofs.lemmas.List.Elements.{filter_map-append, All-head, All-tail}
-use Rattle.std.proofs.lemmas.List.Sums.{sum_by-append}
+use Rattle.std.proofs.lemmas.List.Sums.{sum_by-append, sum_by-cons}
 use Rattle.std.specs.BTreeMap.{is_at}
 use Rattle.std.specs.List.{All, cons_option}
 use Rattle.std.specs.Map.{keys_of, lookup}
@@ -14,7 +14,7 @@ use Rattle.trex_stats.specs.declared.flow.Flow.{Flow}
 use Rattle.trex_stats.specs.declared.glimpse.Glimpse.TheVariants.{Plain, Stamped}
 use Rattle.trex_stats.specs.declared.line.FlowLine.{FlowLine}
 use Rattle.trex_stats.specs.Arrivals.{line_of, sequences}
-use Rattle.trex_stats.specs.Counts.{Counts, CountsFor, StandsFor, glimpse_by, glimpse_of, stamp_at, arrival_of, arrival_in, arrivals, with_one, lines_in, lines_of}
+use Rattle.trex_stats.specs.Counts.{Counts, CountsFor, StandsFor, glimpse_by, glimpse_of, stamp_at, arrival_of, arrival_in, arrivals, stamped_of, with_one, lines_in, lines_of}
 use Rattle.trex_stats.specs.Kept.{AreFlow, AreFlows, line_in}
 use Rattle.trex_stats.specs.Ranges.{has}
 use Rattle.trex_stats.proofs.Members.{missing_same}
@@ -85,6 +85,50 @@ module _ (c new : Counts) (rs : List Seen) (r : Seen) (stands : CountsFor c rs) 
         stamped = omega (arith, stamped, stands.stamped, rw one at more);
         flows = subst (λ l. AreFlows l (arrivals (rs ++ r ∷ []))) (sym flows) (AreFlows-same c.flows (arrivals rs) (arrivals (rs ++ r ∷ [])) (arrivals_plain rs r is) stands.flows);
       }
+
+-- ---- records that count for no flow
+
+front_kept : (r : Seen) (rs : List Seen) → is_some (stamp_at r) ≡ true → stamped_of (r ∷ rs) ≡ r ∷ stamped_of rs
+front_kept r rs is = ap (λ b. if b then r ∷ stamped_of rs else stamped_of rs) is
+
+front_left : (r : Seen) (rs : List Seen) → is_some (stamp_at r) ≡ false → stamped_of (r ∷ rs) ≡ stamped_of rs
+front_left r rs is = ap (λ b. if b then r ∷ stamped_of rs else stamped_of rs) is
+
+-- a flow's packets are among the records that count for a flow
+arrivals_in_front : (r : Seen) (rs : List Seen) (q : ℕ) (o : Option Stamp) → stamp_at r ≡ o → arrivals (stamped_of rs) q ≡ arrivals rs q → arrivals (stamped_of (r ∷ rs)) q ≡ arrivals (r ∷ rs) q
+arrivals_in_front r rs q None is same =
+    ap (λ l. arrivals l q) (front_left r rs (ap is_some is)) ∙ same ∙ ap (λ o. cons_option (arrival_in q r.time o) (arrivals rs q)) (sym is)
+arrivals_in_front r rs q (Some s) is same =
+    ap (λ l. arrivals l q) (front_kept r rs (ap is_some is)) ∙ ap (cons_option (arrival_in q r.time (stamp_at r))) same
+
+arrivals-stamped_of : (rs : List Seen) (q : ℕ) → arrivals (stamped_of rs) q ≡ arrivals rs q
+arrivals-stamped_of [] q = refl
+arrivals-stamped_of (r ∷ rs) q = arrivals_in_front r rs q (stamp_at r) refl (arrivals-stamped_of rs q)
+
+-- and so many are they
+abbrev stamped_in : List Seen → ℕ
+stamped_in rs = count_by (λ t. is_some (stamp_at t)) rs
+
+stamped_in_front : (r : Seen) (rs : List Seen) (b : Bool) → is_some (stamp_at r) ≡ b → stamped_in (stamped_of rs) ≡ stamped_in rs → stamped_in (stamped_of (r ∷ rs)) ≡ stamped_in (r ∷ rs)
+stamped_in_front r rs true is same =
+    let one : Seen → ℕ = λ t. if is_some (stamp_at t) then 1 else 0 in
+    ap stamped_in (front_kept r rs is) ∙ omega (arith, same, sum_by-cons one r (stamped_of rs), sum_by-cons one r rs)
+stamped_in_front r rs false is same =
+    let one : Seen → ℕ = λ t. if is_some (stamp_at t) then 1 else 0 in
+    let none : one r ≡ 0 = ap (λ b. if b then 1 else 0) is in
+    ap stamped_in (front_left r rs is) ∙ omega (arith, same, none, sum_by-cons one r rs)
+
+in-stamped_of : (rs : List Seen) → stamped_in (stamped_of rs) ≡ stamped_in rs
+in-stamped_of [] = refl
+in-stamped_of (r ∷ rs) = stamped_in_front r rs (is_some (stamp_at r)) refl (in-stamped_of rs)
+
+-- the counts of those, and as many more records as count for none
+pub stands_filled : (c new : Counts) (rs : List Seen) → CountsFor c (stamped_of rs) → new.records ≡ length rs → new.stamped ≡ c.stamped → new.flows ≡ c.flows → CountsFor new rs
+stands_filled c new rs counts records stamped flows = record {
+  records = records;
+  stamped = stamped ∙ counts.stamped ∙ in-stamped_of rs;
+  flows = subst (λ l. AreFlows l (arrivals rs)) (sym flows) (AreFlows-same c.flows (arrivals (stamped_of rs)) (arrivals rs) (arrivals-stamped_of rs) counts.flows);
+}
 
 -- a record of which the counts take a stamp has this stamp
 pub record HasStamp (r : Seen) (flow sequence sent : ℕ) : Type 0 where

@@ -68,6 +68,10 @@ pub record CountsFor (c : Counts) (rs : List Seen) : Type 0 where
   pub stamped : c.stamped ≡ count_by (λ r. is_some (stamp_at r)) rs
   pub flows : AreFlows c.flows (arrivals rs)
 
+-- those of some records that count for a flow
+abbrev pub stamped_of : List Seen → List Seen
+stamped_of rs = filter (λ r. is_some (stamp_at r)) rs
+
 -- the flow numbers of the stamped packets among some records, in the order of the packets
 abbrev pub flow_numbers : List Seen → List ℕ
 flow_numbers rs = filter_map (λ r. option_map (λ s. s.flow) (stamp_at r)) rs

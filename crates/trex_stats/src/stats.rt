@@ -8,7 +8,7 @@ ghost use Rattle.std.specs.Map.{keys_of, lookup};
 ghost use Rattle.std.specs.Ordering.{nat_cmp};
 ghost use Rattle.trex_io.specs.Seen.{Seen};
 ghost use Rattle.trex_stats.specs.Arrivals.{line_of};
-ghost use Rattle.trex_stats.specs.Counts.{CountsFor, StandsFor, arrivals, flows_of, glimpse_of, lines_in, lines_of, totals_of, with_one};
+ghost use Rattle.trex_stats.specs.Counts.{CountsFor, StandsFor, arrivals, flows_of, glimpse_of, lines_in, lines_of, stamped_of, totals_of, with_one};
 ghost use Rattle.trex_stats.specs.Kept.{AllUpTo, AreFlows};
 ghost use Rattle.trex_stats.specs.Ranges.{has};
 ghost use Rattle.trex_stats.specs.declared.arrival.Arrival.{Arrival};
@@ -116,6 +116,20 @@ impl Stats {
         }
         self.records += 1;
         Ok(())
+    }
+
+    /// Counts so many more records that count for no flow, but not their bytes. Where the others among some records are counted
+    /// already, all of them are then.
+    pub fn add_plain(&mut self, records: u64)
+        requires few { self.old.records + records ≤ 200000000 }
+        ensures counts { (rs : List Seen) → CountsFor self.old (stamped_of rs) → self.old.records + records ≡ length rs
+            → CountsFor self.new rs }
+        ensures records { self.new.records ≡ self.old.records + records }
+        ensures bytes { self.new.bytes ≡ self.old.bytes }
+        ensures stamped { self.new.stamped ≡ self.old.stamped }
+        ensures flows { self.new.flows ≡ self.old.flows }
+    {
+        self.records += records;
     }
 
     /// Counts the captured bytes of records that are counted already.

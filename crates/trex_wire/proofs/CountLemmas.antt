@@ -1,11 +1,11 @@
 -- How many copies arrive.
-use Rattle.std.proofs.Common.{◌≡◌, ℕ, suc, ◌+◌, ◌*◌, ◌<◌, ◌≤◌, ◌==◌, inl, inr, Bool, true, false, cond, nat_eq, nat_lt, Option, Some, List, [], ◌∷◌, ◌++◌, length, map, refl, sym, subst, ap, ◌∙◌, arith, add-zero, zero-add, length-append}
+use Rattle.std.proofs.Common.{◌≡◌, ℕ, ◌+◌, ◌*◌, ◌<◌, ◌≤◌, ◌==◌, inl, inr, Bool, true, false, cond, nat_eq, nat_lt, Option, List, [], ◌∷◌, ◌++◌, length, map, refl, sym, subst, ap, ◌∙◌, arith, length-append}
 use Rattle.std.proofs.lemmas.Bool.Decides.{eqb_tells, nat_tests}
 use Rattle.std.proofs.lemmas.List.{length-map}
 use Rattle.std.proofs.lemmas.List.Elements.{filter-append}
 use Rattle.std.proofs.lemmas.List.Sorted.{length_permutation}
 use Rattle.std.proofs.lemmas.List.Sums.{sum_by-cons}
-use Rattle.std.specs.List.{filter, range_with_len, slice_get, sum_by}
+use Rattle.std.specs.List.{filter, range_with_len, sum_by}
 use Rattle.trex_io.specs.Seen.{Seen}
 use Rattle.trex_merge.specs.declared.key.Key.{Key}
 use Rattle.trex_merge.specs.Order.{is_before, ordered, placed}
@@ -15,9 +15,9 @@ use Rattle.trex_stats.specs.Kept.{AreFlows}
 use Rattle.trex_vars.specs.Value.{word_at}
 use Rattle.trex_wire.specs.declared.spec.WireSpec.{WireSpec}
 use Rattle.trex_wire.specs.declared.lanes.Due.{Due}
-use Rattle.trex_wire.specs.Lanes.{both, key_in, lane}
+use Rattle.trex_wire.specs.Lanes.{lane, plain_of}
 use Rattle.trex_wire.specs.Wired.{arrival, arrivals, bytes_of, copies, copies_by, seen_at, seen_then, wired, with_copies}
-use Rattle.trex_wire.proofs.LaneLemmas.{AreMoved, arrivals_distinct, both_moved, copies_any, lane_short}
+use Rattle.trex_wire.proofs.LaneLemmas.{AreMoved, EndAll, all_come, arrivals_distinct, copies_any, end_first, end_later, end_whole, few_come}
 
 -- ---- a list in order is as long
 
@@ -101,23 +101,22 @@ length-wired ask rs = length-map (ordered (λ k. k) (arrivals ask 0 rs)) (seen_a
 pub nothing_lost : (ask : WireSpec) (rs : List Seen) → length (wired rs ask) + with_copies 0 ask 0 rs ≡ length rs + with_copies 2 ask 0 rs
 nothing_lost ask rs = omega (arith, length-wired ask rs, all_counted ask 0 rs)
 
--- as many arrive as the lanes have, also where these were put in another order
-pub lanes_arrive : (ask : WireSpec) (rs : List Seen) (first second : List Due) → AreMoved ask rs first second → length first + length second ≡ length (wired rs ask)
+-- as many arrive as the lanes have, also where these were put in another order, and as are in none
+pub lanes_arrive : (ask : WireSpec) (rs : List Seen) (first second : List Due) → AreMoved ask rs first second → length first + length second + plain_of ask 0 rs ≡ length (wired rs ask)
 lanes_arrive ask rs first second lanes =
     omega (
       arith,
       length-wired ask rs,
-      length_permutation (arrivals ask 0 rs) (both first second) (both_moved ask rs first second lanes),
-      length-append (map (key_in 0) first) (map (key_in 1) second),
-      length-map first (key_in 0),
-      length-map second (key_in 1),
+      all_come ask 0 rs,
+      length_permutation (lane ask 0 0 rs) first lanes.moved,
+      length_permutation (lane ask 1 0 rs) second lanes.again,
     )
 
 -- ---- bounds
 
-pub lanes_short : (ask : WireSpec) (rs : List Seen) (first second : List Due) → AreMoved ask rs first second → length first + length second ≤ length rs + length rs
+pub lanes_short : (ask : WireSpec) (rs : List Seen) (first second : List Due) → AreMoved ask rs first second → length first + length second + plain_of ask 0 rs ≤ length rs + length rs
 lanes_short ask rs first second lanes =
-    omega (arith, length_permutation (lane ask 0 0 rs) first lanes.moved, length_permutation (lane ask 1 0 rs) second lanes.again, lane_short ask 0 0 rs, lane_short ask 1 0 rs)
+    omega (arith, few_come ask 0 rs, length_permutation (lane ask 0 0 rs) first lanes.moved, length_permutation (lane ask 1 0 rs) second lanes.again)
 
 -- ---- the bytes of what arrives
 
@@ -143,21 +142,18 @@ sum_seen all [] = refl
 sum_seen all (k ∷ ks) =
     omega (arith, sum_by-cons (λ (r : Seen). length r.bytes) (seen_at all k) (map (seen_at all) ks), sum_seen all ks, sum_by-cons (bytes_in all) k ks)
 
--- records that are the end of all, where the first is record i
-all_weighed : (ask : WireSpec) (all : List Seen) (i : ℕ) (rs : List Seen) → ((n : ℕ) → slice_get all (i + n) ≡ slice_get rs n)
-    → sum_by (bytes_in all) (arrivals ask i rs) ≡ bytes_of ask i rs
+all_weighed : (ask : WireSpec) (all : List Seen) (i : ℕ) (rs : List Seen) → EndAll all i rs → sum_by (bytes_in all) (arrivals ask i rs) ≡ bytes_of ask i rs
 all_weighed ask all i [] ends = refl
 all_weighed ask all i (r ∷ rs) ends =
     let rest = arrivals ask (i + 1) rs in
     let f = bytes_in all in
     let w = word_at ask.seed 0 (3 * i) in
-    let here : slice_get all i ≡ Some r = ap (slice_get all) (sym (add-zero i)) ∙ ends 0 in
+    let here = end_first all i r rs ends in
     let a = arrival ask i r.time 0 in
     let b = arrival ask i r.time 1 in
     let first : f a ≡ length r.bytes = ap (λ (o : Option Seen). length (seen_then a.time o).bytes) here in
     let second : f b ≡ length r.bytes = ap (λ (o : Option Seen). length (seen_then b.time o).bytes) here in
-    let later : sum_by f rest ≡ bytes_of ask (i + 1) rs =
-    all_weighed ask all (i + 1) rs (λ n. let next : i + 1 + n ≡ i + suc n = omega arith in ap (slice_get all) next ∙ ends (suc n)) in
+    let later : sum_by f rest ≡ bytes_of ask (i + 1) rs = all_weighed ask all (i + 1) rs (end_later all i r rs ends) in
     let n = length r.bytes in
     copies_any (λ (c : ℕ). sum_by f (map (arrival ask i r.time) (range_with_len 0 c) ++ rest) ≡ cond (nat_lt 0 c) n 0 + cond (nat_lt 1 c) n 0 + bytes_of ask (i + 1) rs) ask w
     (omega (arith, later)) (omega (arith, later, first, sum_by-cons f a rest)) (omega (arith, later, first, second, sum_by-cons f a (b ∷ rest), sum_by-cons f b rest))
@@ -165,7 +161,7 @@ all_weighed ask all i (r ∷ rs) ends =
 pub bytes_arrive : (ask : WireSpec) (rs : List Seen) → sum_by (λ (r : Seen). length r.bytes) (wired rs ask) ≡ bytes_of ask 0 rs
 bytes_arrive ask rs =
     sum_seen rs (ordered (λ k. k) (arrivals ask 0 rs)) ∙ sum-ordered (bytes_in rs) (λ k. k) (arrivals ask 0 rs)
-    ∙ all_weighed ask rs 0 rs (λ n. ap (slice_get rs) (zero-add n))
+    ∙ all_weighed ask rs 0 rs (end_whole rs)
 
 -- counts that stand for what arrives but for the bytes, and then have those too
 pub stands_whole : (ask : WireSpec) (rs : List Seen) (mid new : Counts) → CountsFor mid (wired rs ask) → new.records ≡ mid.records → new.stamped ≡ mid.stamped

@@ -1,5 +1,5 @@
 -- The merge of two lanes, of which all copies wait.
-use Rattle.std.proofs.Common.{◌≡◌, ℕ, zero, suc, ◌+◌, ◌-◌, ◌<◌, ◌≤◌, ◌&&◌, not, true, Option, Some, None, List, [], ◌∷◌, ◌++◌, append-nil, get_or, length, map, take, refl, sym, ap, ◌∙◌, subst, arith, length-append}
+use Rattle.std.proofs.Common.{◌≡◌, ℕ, zero, suc, ◌+◌, ◌-◌, ◌<◌, ◌≤◌, ◌&&◌, not, true, Option, Some, None, List, [], ◌∷◌, ◌++◌, append-nil, get_or, length, map, set, take, refl, sym, ap, ◌∙◌, subst, arith, length-append}
 use Rattle.std.proofs.lemmas.List.{length-map, map-append, take_all}
 use Rattle.std.specs.List.{AllByRecursion, slice_get}
 use Rattle.trex_io.specs.Seen.{Seen}
@@ -13,20 +13,18 @@ use Rattle.trex_merge.proofs.QueueLemmas.{end_is_ended, need_is_first, packet_is
 use Rattle.trex_merge.proofs.EventLemmas.{emit_keeps, first_waits, sent_whole}
 use Rattle.trex_merge.proofs.FrameLemmas.{distinct-map, map-ordered}
 use Rattle.trex_stats.specs.Counts.{Counts, CountsFor}
-use Rattle.trex_stats.specs.declared.glimpse.Glimpse.{Glimpse}
 use Rattle.trex_wire.specs.declared.lanes.Due.{Due}
 use Rattle.trex_wire.specs.declared.merge.Lane.{Lane}
-use Rattle.trex_wire.specs.Lanes.{both, frame_at, key_in, lane_of, queue_of, seen_of}
-use Rattle.trex_wire.specs.Sent.{glimpse_at}
+use Rattle.trex_wire.specs.Lanes.{AreOf, LanesAreOf, both, frame_at, key_in, lane_of, queue_of, seen_of}
 use Rattle.trex_wire.specs.Wired.{seen_at, seen_then}
 use Rattle.trex_wire.proofs.CountLemmas.{length-ordered}
 
--- So many copies were sent, and the counts are those of their records, by what is kept of these, but for the bytes; the rest waits.
-pub record IsAt (frames : List Frame) (glimpses : List Glimpse) (queues : List Queue) (sent limit : ℕ) (c : Counts) : Type 0 where
+-- So many copies were sent, and the counts are those of their records, where these are as H says, but for the bytes; the rest waits.
+pub record IsAt (frames : List Frame) (H : List Seen → Type 0) (queues : List Queue) (sent limit : ℕ) (c : Counts) : Type 0 where
   pub list : List Frame
   pub mill : IsMill frames (record { queues = queues; sent = list; limit = limit })
   pub count : length list ≡ sent
-  pub stands : (rs : List Seen) → glimpses ≡ map glimpse_at rs → CountsFor c (map (seen_of rs) list)
+  pub stands : (rs : List Seen) → H rs → CountsFor c (map (seen_of rs) list)
   pub records : c.records ≡ sent
   pub bytes : c.bytes ≡ 0
   pub quiet : AllByRecursion (λ queue. queue.coming ≡ []) queues
@@ -63,10 +61,10 @@ module _ (first second : List Due) where
       ∙ ap (λ (l : List Frame). map frame_at (map (key_in 0) first) ++ l) (sym (frames_are 1 second))
       ∙ sym (map-append frame_at (map (key_in 0) first) (map (key_in 1) second))
 
-  pub begun : (glimpses : List Glimpse) (limit : ℕ) (c : Counts) → AreDistinct (λ k. k) (both first second) → IsRising (λ k. k) (map (key_in 0) first)
+  pub begun : (H : List Seen → Type 0) (limit : ℕ) (c : Counts) → AreDistinct (λ k. k) (both first second) → IsRising (λ k. k) (map (key_in 0) first)
       → IsRising (λ k. k) (map (key_in 1) second) → CountsFor c [] → c.records ≡ 0 → c.bytes ≡ 0
-      → IsAt (map frame_at (both first second)) glimpses begun_queues 0 limit c
-  begun glimpses limit c distinct rises second_rises stands none no_bytes = record {
+      → IsAt (map frame_at (both first second)) H begun_queues 0 limit c
+  begun H limit c distinct rises second_rises stands none no_bytes = record {
     list = [];
     mill = record {
       whole = ap (ordered key_of) all_waits;
@@ -92,17 +90,17 @@ quiet-popped zero (queue ∷ queues) quiet = (quiet.0, quiet.1)
 quiet-popped (suc at) (queue ∷ queues) quiet = (quiet.0, quiet-popped at queues quiet.1)
 
 -- what comes next, by the number that was sent
-comes_next : (frames : List Frame) (glimpses : List Glimpse) (queues : List Queue) (sent limit at : ℕ) (c : Counts) (is : IsAt frames glimpses queues sent limit c)
+comes_next : (frames : List Frame) (H : List Seen → Type 0) (queues : List Queue) (sent limit at : ℕ) (c : Counts) (is : IsAt frames H queues sent limit c)
     → next_of (limit - sent) queues ≡ Packet at → next_of (limit - length is.list) queues ≡ Packet at
-comes_next frames glimpses queues sent limit at c is next = subst (λ (n : ℕ). next_of (limit - n) queues ≡ Packet at) (sym is.count) next
+comes_next frames H queues sent limit at c is next = subst (λ (n : ℕ). next_of (limit - n) queues ≡ Packet at) (sym is.count) next
 
-pub one_more : (frames : List Frame) (glimpses : List Glimpse) (queues : List Queue) (sent limit at : ℕ) (c d : Counts) → IsAt frames glimpses queues sent limit c
+pub one_more : (frames : List Frame) (H : List Seen → Type 0) (queues : List Queue) (sent limit at : ℕ) (c d : Counts) → IsAt frames H queues sent limit c
     → next_of (limit - sent) queues ≡ Packet at
-    → ((rs ss : List Seen) → glimpses ≡ map glimpse_at rs → CountsFor c ss → CountsFor d (ss ++ map (seen_of rs) (take 1 (waiting_at at queues)))) → d.records ≡ c.records + 1 → d.bytes ≡ c.bytes
-    → IsAt frames glimpses (at_place popped at queues) (sent + 1) limit d
-one_more frames glimpses queues sent limit at c d is next stands more same =
+    → ((rs ss : List Seen) → H rs → CountsFor c ss → CountsFor d (ss ++ map (seen_of rs) (take 1 (waiting_at at queues)))) → d.records ≡ c.records + 1 → d.bytes ≡ c.bytes
+    → IsAt frames H (at_place popped at queues) (sent + 1) limit d
+one_more frames H queues sent limit at c d is next stands more same =
     let state : MillState = record { queues = queues; sent = is.list; limit = limit } in
-    let here = comes_next frames glimpses queues sent limit at c is next in
+    let here = comes_next frames H queues sent limit at c is next in
     let least = packet_is_least (limit - length is.list) at queues here in
     let waits = first_waits at queues least.frame least.rest least.there in
     let one : length (take 1 (waiting_at at queues)) ≡ 1 = ap length waits.sent in
@@ -128,9 +126,9 @@ quiet_at [] at queue there quiet = cc
 quiet_at (q ∷ queues) zero queue there quiet = let same : q ≡ queue = cc in ap (λ (x : Queue). x.coming) (sym same) ∙ quiet.0
 quiet_at (q ∷ queues) (suc at) queue there quiet = quiet_at queues at queue there quiet.1
 
-pub none_needed : (frames : List Frame) (glimpses : List Glimpse) (queues : List Queue) (sent limit core : ℕ) (c : Counts) → IsAt frames glimpses queues sent limit c
+pub none_needed : (frames : List Frame) (H : List Seen → Type 0) (queues : List Queue) (sent limit core : ℕ) (c : Counts) → IsAt frames H queues sent limit c
     → next_of (limit - sent) queues ≡ Need core → ⊥
-none_needed frames glimpses queues sent limit core c is next =
+none_needed frames H queues sent limit core c is next =
     let first = need_is_first (limit - sent) core queues next in
     owes first.queue.waiting first.queue.coming (quiet_at queues core first.queue first.there is.quiet) first.needy
   where
@@ -145,18 +143,23 @@ seen_frames : (rs : List Seen) (ks : List Key) → map (seen_of rs) (map frame_a
 seen_frames rs [] = refl
 seen_frames rs (k ∷ ks) = ap (λ (l : List Seen). seen_at rs k ∷ l) (seen_frames rs ks)
 
-pub all_sent : (keys : List Key) (glimpses : List Glimpse) (queues : List Queue) (sent limit : ℕ) (c : Counts) → limit ≡ length keys
-    → IsAt (map frame_at keys) glimpses queues sent limit c → next_of (limit - sent) queues ≡ End
-    → (rs : List Seen) → glimpses ≡ map glimpse_at rs → CountsFor c (map (seen_at rs) (ordered (λ k. k) keys))
-all_sent keys glimpses queues sent limit c enough is next rs kept =
-    let frames = map frame_at keys in
-    let state : MillState = record { queues = queues; sent = is.list; limit = limit } in
-    let here : next_of (limit - length is.list) queues ≡ End = subst (λ (n : ℕ). next_of (limit - n) queues ≡ End) (sym is.count) next in
-    let whole : is.list ≡ take limit (ordered key_of frames) = sent_whole frames state is.mill ((end_is_ended state).0 here) in
-    let short : length (ordered key_of frames) ≤ limit = omega (arith, length-ordered key_of frames, length-map keys frame_at, enough) in
-    let list : is.list ≡ map frame_at (ordered (λ k. k) keys) =
-    whole ∙ take_all limit (ordered key_of frames) short ∙ sym (map-ordered (λ k. k) key_of frame_at (λ k. refl) keys) in
-    subst (CountsFor c) (ap (map (seen_of rs)) list ∙ seen_frames rs (ordered (λ k. k) keys)) (is.stands rs kept)
+module _ (keys : List Key) (H : List Seen → Type 0) (queues : List Queue) (sent limit : ℕ) (c : Counts) (enough : limit ≡ length keys)
+    (is : IsAt (map frame_at keys) H queues sent limit c) (next : next_of (limit - sent) queues ≡ End) where
+  sent_list : is.list ≡ map frame_at (ordered (λ k. k) keys)
+  sent_list =
+      let frames = map frame_at keys in
+      let state : MillState = record { queues = queues; sent = is.list; limit = limit } in
+      let here : next_of (limit - length is.list) queues ≡ End = subst (λ (n : ℕ). next_of (limit - n) queues ≡ End) (sym is.count) next in
+      let whole : is.list ≡ take limit (ordered key_of frames) = sent_whole frames state is.mill ((end_is_ended state).0 here) in
+      let short : length (ordered key_of frames) ≤ limit = omega (arith, length-ordered key_of frames, length-map keys frame_at, enough) in
+      whole ∙ take_all limit (ordered key_of frames) short ∙ sym (map-ordered (λ k. k) key_of frame_at (λ k. refl) keys)
+
+  pub all_sent : (rs : List Seen) → H rs → CountsFor c (map (seen_at rs) (ordered (λ k. k) keys))
+  all_sent rs kept = subst (CountsFor c) (ap (map (seen_of rs)) sent_list ∙ seen_frames rs (ordered (λ k. k) keys)) (is.stands rs kept)
+
+  pub all_recorded : c.records ≡ length keys
+  all_recorded =
+      omega (arith, is.records, is.count, ap length sent_list, length-map (ordered (λ k. k) keys) frame_at, length-ordered (λ k. k) keys)
 
 -- ---- the copy that comes next
 
@@ -170,19 +173,18 @@ lane_first (lane ∷ lanes) zero d e some within = front lane.rest.now some
     front (due ∷ dues) some = refl
 lane_first (lane ∷ lanes) (suc feed) d e some within = lane_first lanes feed d e some (omega (arith, within))
 
--- ---- what is kept of a record
+-- ---- the copies of lanes stay those of their records
 
-pub kept_at : (time : ℕ) (rs : List Seen) (at : ℕ) (glimpse d : Glimpse) → at < length (map glimpse_at rs) → glimpse ≡ get_or (map glimpse_at rs) at d
-    → glimpse_at (seen_then time (slice_get rs at)) ≡ glimpse
-kept_at time [] at glimpse d within there = absurd (omega (arith, within))
-kept_at time (r ∷ rs) zero glimpse d within there = sym there
-kept_at time (r ∷ rs) (suc at) glimpse d within there = kept_at time rs at glimpse d (omega (arith, within)) there
+pub of_first : (rs : List Seen) (lanes : List Lane) (feed : ℕ) (d : Lane) → feed < length lanes → LanesAreOf rs lanes → AreOf rs (get_or lanes feed d).rest.now
+of_first rs [] feed d within are = absurd (omega (arith, within))
+of_first rs (lane ∷ lanes) zero d within are = are.0
+of_first rs (lane ∷ lanes) (suc feed) d within are = of_first rs lanes feed d (omega (arith, within)) are.1
+
+pub of_set : (rs : List Seen) (lanes : List Lane) (feed : ℕ) (new : Lane) → AreOf rs new.rest.now → LanesAreOf rs lanes → LanesAreOf rs (set lanes feed new)
+of_set rs [] feed new is are = tt
+of_set rs (lane ∷ lanes) zero new is are = (is, are.1)
+of_set rs (lane ∷ lanes) (suc feed) new is are = (are.0, of_set rs lanes feed new is are.1)
 
 pub timed_at : (time : ℕ) (r : Option Seen) → (seen_then time r).time ≡ time
 timed_at time None = refl
 timed_at time (Some r) = refl
-
-pub none_at : (time : ℕ) (rs : List Seen) (at : ℕ) → length (map glimpse_at rs) ≤ at → record { time = time; bytes = []; original = 0 } ≡ seen_then time (slice_get rs at)
-none_at time [] at past = refl
-none_at time (r ∷ rs) zero past = absurd (omega (arith, past))
-none_at time (r ∷ rs) (suc at) past = none_at time rs at (omega (arith, past))

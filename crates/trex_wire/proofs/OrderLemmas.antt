@@ -16,7 +16,8 @@ use Rattle.trex_wire.specs.Lanes.{key_in}
 
 -- the order of a lane
 abbrev pub due_cmp : Due → Due → Ordering
-due_cmp x y = ordering_then (nat_cmp x.time y.time) (nat_cmp x.place y.place)
+due_cmp x y =
+    ordering_then (nat_cmp x.time y.time) (ordering_then (nat_cmp x.place y.place) (ordering_then (nat_cmp x.flow y.flow) (ordering_then (nat_cmp x.sequence y.sequence) (nat_cmp x.sent y.sent))))
 
 module _ (copy : ℕ) where
   -- ---- sorted copies rise

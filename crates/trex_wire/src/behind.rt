@@ -18,7 +18,7 @@ use trex_stats::Stats;
 impl Keep for Wire {
     ghost stands = { Carries };
 
-    ghost kept = { λ w. length w.glimpses };
+    ghost kept = { λ w. w.sent };
 
     ghost mark = { λ w. w.ask.seed ∷ w.ask.loss ∷ w.ask.copy ∷ w.ask.delay ∷ [] };
 

@@ -16,14 +16,15 @@ use std::marker::Model;
 use trex_io::Memory;
 use trex_stats::{Glimpse, Stats};
 
-/// A wire, to which records are sent one after another: `new`, `send` for each record, and at last `measure`. It keeps what the counts
-/// take of each record, when its copies arrive, and the captured bytes of all copies in one number.
+/// A wire, to which records are sent one after another: `new`, `send` for each record, and at last `measure`. It keeps, of each copy of
+/// a record that counts for a flow, when it arrives and what the counts take of it. Of other records it keeps how many copies arrive,
+/// and of all copies the captured bytes, each in one number.
 #[derive(Drop)]
 pub struct Wire {
     alloc: Global,
     ask: WireSpec,
     generator: Lcg128Xsl64,
-    glimpses: Vec<Glimpse>,
+    sent: u32,
     lanes: Lanes,
 }
 
@@ -37,22 +38,24 @@ impl Model for Wire {
     ghost view = { λ w. record {
       ask = w.ask;
       generator = w.generator;
-      glimpses = w.glimpses.items;
+      sent = w.sent;
       first = w.lanes.first.items;
       second = w.lanes.second.items;
+      plain = w.lanes.plain;
       lost = w.lanes.lost;
       copied = w.lanes.copied;
       bytes = w.lanes.bytes;
     } };
 
-    ghost invariant = { λ w. IsAsk w.ask × (length w.glimpses.items ≤ 100000000)
-        × (w.lanes.bytes ≤ (length w.lanes.first.items + length w.lanes.second.items) * 262144)
+    ghost invariant = { λ w. IsAsk w.ask × (w.sent ≤ 100000000)
+        × (w.lanes.bytes ≤ (length w.lanes.first.items + length w.lanes.second.items + w.lanes.plain) * 262144)
         × IsCarried (record {
           ask = w.ask;
           generator = w.generator;
-          glimpses = w.glimpses.items;
+          sent = w.sent;
           first = w.lanes.first.items;
           second = w.lanes.second.items;
+          plain = w.lanes.plain;
           lost = w.lanes.lost;
           copied = w.lanes.copied;
           bytes = w.lanes.bytes;
@@ -70,7 +73,7 @@ impl Wire {
             alloc,
             ask,
             generator: generator_of(ask.seed),
-            glimpses: Vec::new(alloc),
+            sent: 0,
             lanes: Lanes::new(alloc),
         }
     }
@@ -78,21 +81,22 @@ impl Wire {
     /// Sends one more record, of this time in ns, these captured bytes and this original length. All words of the record are drawn, also
     /// those that it doesn't need. Out of memory, the wire is as before.
     pub fn send(&mut self, time: u64, bytes: &[u8], original: u32) -> Result<(), Memory>
-        requires few { length self.old.glimpses < 100000000 }
+        requires few { self.old.sent < 100000000 }
         requires early { time < 2 ^ 63 }
         requires short { length bytes.now ≤ 262144 }
         ensures sent { OnOk result ((rs : List Seen) → Carries self.old rs
             → Carries self.new (rs ++ record { time = time; bytes = bytes.now; original = original } ∷ [])) }
         ensures asked { OnOk result (self.new.ask ≡ self.old.ask) }
-        ensures kept { OnOk result (length self.new.glimpses ≡ length self.old.glimpses + 1) }
+        ensures kept { OnOk result (self.new.sent ≡ self.old.sent + 1) }
         ensures err { OnErr result (self.new ≡ self.old) }
     {
-        self.lanes.make_room()?;
-        let place = self.glimpses.len() as u64;
-        self.glimpses.push(Glimpse::of(bytes, original))?;
+        let glimpse = Glimpse::of(bytes, original);
+        self.lanes.make_room(glimpse)?;
         let words = draw_three(&mut self.generator);
         let captured = bytes.len() as u64;
-        self.lanes.put(self.ask, time, place, captured, words);
+        self.lanes
+            .put(self.ask, time, self.sent, glimpse, captured, words);
+        self.sent += 1;
         Ok(())
     }
 
@@ -105,20 +109,21 @@ impl Wire {
     {
         let Wire {
             alloc,
-            glimpses,
+            sent,
             mut lanes,
             ..
         } = self;
         sort_lane(&mut lanes.first);
         sort_lane(&mut lanes.second);
-        let arrived = lanes.first.len() + lanes.second.len();
+        let stamped = lanes.first.len() + lanes.second.len();
         let counts = WireCounts {
-            sent: glimpses.len() as u64,
+            sent: u64::from(sent),
             lost: lanes.lost,
             copied: lanes.copied,
-            arrived: arrived as u64,
+            arrived: stamped as u64 + lanes.plain,
         };
-        let mut stats = merge(alloc, &glimpses, &lanes.first, &lanes.second)?;
+        let mut stats = merge(alloc, &lanes.first, &lanes.second)?;
+        stats.add_plain(lanes.plain);
         stats.add_bytes(lanes.bytes);
         Ok((stats, counts))
     }

@@ -1,5 +1,6 @@
-use Rattle.std.proofs.Common.{◌≡◌, ◌+◌, ◌-◌, length, map}
-use Rattle.trex_wire.specs.Lanes.{both, frame_at, queue_of}
+use Rattle.std.proofs.Common.{◌≡◌, ◌+◌, ◌-◌, List, length, map}
+use Rattle.trex_io.specs.Seen.{Seen}
+use Rattle.trex_wire.specs.Lanes.{AreOf, LanesAreOf, both, frame_at, queue_of}
 use Rattle.trex_wire.proofs.MergeLemmas.{IsAt}
 use Rattle.trex_wire.proofs.merge.merge.Given as goal
 
@@ -7,7 +8,8 @@ abbrev pub invariant-sent : goal.invariant-sent
 invariant-sent l = record {
   limit : l.mill.limit ≡ length l.fn.first + length l.fn.second;
   two : length l.lanes ≡ 2;
-  at : IsAt (map frame_at (both l.fn.first l.fn.second)) l.fn.glimpses (map queue_of l.lanes) l.mill.sent l.mill.limit l.stats;
+  at : IsAt (map frame_at (both l.fn.first l.fn.second)) (λ rs. AreOf rs l.fn.first × AreOf rs l.fn.second) (map queue_of l.lanes) l.mill.sent l.mill.limit l.stats;
+  kept : (rs : List Seen) → AreOf rs l.fn.first × AreOf rs l.fn.second → LanesAreOf rs l.lanes;
 }
 
 abbrev pub decreases-sent : goal.decreases-sent
