@@ -27,6 +27,11 @@ first_named : (legs : List Leg) → 0 < length legs → Name legs (first_stream 
 first_named [] some = absurd (omega arith)
 first_named (leg ∷ legs) some = inl refl
 
+pub first_is : (legs : List Leg) (leg : Leg) → 0 < length legs → leg ≡ get_or legs 0 leg → leg.stream ≡ first_stream legs
+first_is [] leg some is = absurd (omega arith)
+first_is (a ∷ legs) leg some is = ap (λ (l : Leg). l.stream) is
+
+-- two chains begin with different streams
 abbrev pub BeginApart : ChainSpec → ChainSpec → Type 0
 BeginApart a b = ¬ (stream_of a ≡ stream_of b)
 
@@ -57,7 +62,7 @@ pairs_first R (suc n) (x ∷ xs) pairs = (all_first (R x) n xs pairs.0, pairs_fi
 
 -- what holds of the first ones and of the next holds of one more
 pub one_more : {X : Type 0} (P : X → Type 0) (n : ℕ) (xs : List X) (x : X) → n < length xs → x ≡ get_or xs n x → AllByRecursion P (take n xs) → P x
-    → AllByRecursion P (take (n + 1) xs)
+    → AllByRecursion P (take (suc n) xs)
 one_more P n [] x within is all next = absurd (omega arith)
 one_more P zero (a ∷ xs) x within is all next = (subst P is next, tt)
 one_more P (suc n) (a ∷ xs) x within is all next = (all.0, one_more P n xs x (omega arith) is all.1 next)
@@ -84,12 +89,12 @@ firsts_below (chain ∷ chains) q below has =
 few : (chains : List ChainSpec) → EachPair BeginApart chains → AllByRecursion BeginsBelow chains → length chains ≤ 2 ^ 32
 few chains apart below =
     let most = length-le_from_distinct_below (map stream_of chains) (2 ^ 32) (distinct_firsts chains apart) (λ q has. firsts_below chains q below has) in
-    let whole = length-map stream_of chains in
+    let whole = length-map chains stream_of in
     omega arith
 
 -- where the first chains of a list and one more begin with streams of 32 bits, the first ones are fewer than 2^32
-pub few_before : (n : ℕ) (chains : List ChainSpec) → n < length chains → EachPair BeginApart chains → AllByRecursion BeginsBelow (take (n + 1) chains) → n < 2 ^ 32
+pub few_before : (n : ℕ) (chains : List ChainSpec) → n < length chains → EachPair BeginApart chains → AllByRecursion BeginsBelow (take (suc n) chains) → n < 2 ^ 32
 few_before n chains within apart below =
-    let many = length-take-le (n + 1) chains (omega arith) in
-    let most = few (take (n + 1) chains) (pairs_first BeginApart (n + 1) chains apart) below in
+    let many = length-take-le (suc n) chains (omega arith) in
+    let most = few (take (suc n) chains) (pairs_first BeginApart (suc n) chains apart) below in
     omega arith

@@ -92,15 +92,15 @@ own_rest [] p a rest at own = tt
 own_rest (list ∷ lists) zero a rest at own =
     let is : list ≡ a ∷ rest = cc in (
       all_more (λ ys. AllByRecursion (λ x. AllByRecursion (λ y. ¬ (x.stream ≡ y.stream)) ys) list)
-      (λ ys. AllByRecursion (λ x. AllByRecursion (λ y. ¬ (x.stream ≡ y.stream)) ys) rest) lists
-      (λ ys all. (subst (AllByRecursion (λ x. AllByRecursion (λ y. ¬ (x.stream ≡ y.stream)) ys)) is all).1) own.0,
+          (λ ys. AllByRecursion (λ x. AllByRecursion (λ y. ¬ (x.stream ≡ y.stream)) ys) rest) lists
+          (λ ys all. (subst (AllByRecursion (λ x. AllByRecursion (λ y. ¬ (x.stream ≡ y.stream)) ys)) is all).1) own.0,
       own.1,
     )
 own_rest (list ∷ lists) (suc p) a rest at own =
     let Across = λ (ys : List Slot). AllByRecursion (λ x. AllByRecursion (λ y. ¬ (x.stream ≡ y.stream)) ys) list in
     let whole = all_get Across lists p (a ∷ rest) own.0 at in (
       all_set Across lists p rest own.0
-      (all_more (λ x. AllByRecursion (λ y. ¬ (x.stream ≡ y.stream)) (a ∷ rest)) (λ x. AllByRecursion (λ y. ¬ (x.stream ≡ y.stream)) rest) list (λ x all. all.1) whole),
+          (all_more (λ x. AllByRecursion (λ y. ¬ (x.stream ≡ y.stream)) (a ∷ rest)) (λ x. AllByRecursion (λ y. ¬ (x.stream ≡ y.stream)) rest) list (λ x all. all.1) whole),
       own_rest lists p a rest at own.1,
     )
 

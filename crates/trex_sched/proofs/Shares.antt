@@ -85,7 +85,7 @@ named_by_one [] = tt
 named_by_one (chain ∷ chains) = (
   λ s name. named_append chain.legs (legs_of chains) s (inl name),
   all_more (λ one. (s : ℕ) → Name one.legs s → Name (legs_of chains) s) (λ one. (s : ℕ) → Name one.legs s → Name (legs_of (chain ∷ chains)) s) chains
-  (λ one leads s name. named_append chain.legs (legs_of chains) s (inr (leads s name))) (named_by_one chains),
+      (λ one leads s name. named_append chain.legs (legs_of chains) s (inr (leads s name))) (named_by_one chains),
 )
 
 -- no two of chains whose legs name distinct streams name one together
@@ -93,7 +93,7 @@ pub each_names_others : (chains : List Chain) → HaveDistinctStreams chains →
 each_names_others [] streams = tt
 each_names_others (chain ∷ chains) streams = (
   all_more (λ later. (s : ℕ) → Name later.legs s → Name (legs_of chains) s) (NameOthers chain) chains
-  (λ later leads s t mine its. apart_streams chain.legs (legs_of chains) s t streams mine (leads t its)) (named_by_one chains),
+      (λ later leads s t mine its. apart_streams chain.legs (legs_of chains) s t streams mine (leads t its)) (named_by_one chains),
   each_names_others chains (pairs-append_right (λ a b. ¬ (a.stream ≡ b.stream)) chain.legs (legs_of chains) streams),
 )
 
@@ -149,9 +149,9 @@ shares_apart core cores d (chain ∷ chains) are apart named =
     others [] all differ = tt
     others (later ∷ laters) all differ = (
       all_more (λ x. Name chain.legs.items x.stream) (λ x. AllByRecursion (λ y. ¬ (x.stream ≡ y.stream)) (share_of core cores d later)) (share_of core cores d chain)
-      (λ x mine. all_more (λ y. Name later.legs.items y.stream) (λ y. ¬ (x.stream ≡ y.stream)) (share_of core cores d later)
-      (λ y its. differ.0 x.stream y.stream mine its) (part_named later all.0))
-      (part_named chain are.0),
+          (λ x mine. all_more (λ y. Name later.legs.items y.stream) (λ y. ¬ (x.stream ≡ y.stream)) (share_of core cores d later)
+          (λ y its. differ.0 x.stream y.stream mine its) (part_named later all.0))
+          (part_named chain are.0),
       others laters all.1 differ.1,
     )
 
