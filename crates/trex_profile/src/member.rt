@@ -18,6 +18,7 @@ use trex_vm::{Program, programs_fit};
 /// What the packets of a stream are made of.
 #[derive(Drop)]
 pub struct StreamSpec {
+    // What each packet reads stands before what is read at the start alone.
     pub id: u32,
     /// The bytes of each packet before its instructions, 14 to 9,216.
     pub template: Vec<u8>,
