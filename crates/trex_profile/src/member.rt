@@ -18,17 +18,18 @@ use trex_vm::{Program, programs_fit};
 /// What the packets of a stream are made of.
 #[derive(Drop)]
 pub struct StreamSpec {
+    // What each packet reads stands before what is read at the start alone.
     pub id: u32,
     /// The bytes of each packet before its instructions, 14 to 9,216.
     pub template: Vec<u8>,
+    /// The instructions beside those of variables.
+    pub program: Program,
+    /// The flow of the packets, where they end in latency headers.
+    pub flow: Option<Flow>,
     /// The variables, in the order of their instructions.
     pub vars: Vec<VarSpec>,
     /// Of each of them, whether it restarts at each visit of the stream.
     pub restart: Vec<bool>,
-    /// The other instructions.
-    pub program: Program,
-    /// The flow of the packets, where they end in latency headers.
-    pub flow: Option<Flow>,
     pub ghost paired: { vec_len restart ≡ vec_len vars },
     pub ghost at_least: { SHORTEST_PACKET ≤ vec_len template },
     pub ghost at_most: { vec_len template ≤ LONGEST_PACKET },
@@ -83,10 +84,10 @@ impl Member {
             spec: StreamSpec {
                 id: raw.id,
                 template: raw.template,
-                vars: parts.vars,
-                restart: parts.restart,
                 program,
                 flow: raw.flow,
+                vars: parts.vars,
+                restart: parts.restart,
             },
             enabled: raw.enabled,
             self_start: raw.self_start,

@@ -13,10 +13,13 @@ use Rattle.std.specs.declared.cmp.Ordering.TheVariants.{Less, Equal, Greater}
 use Rattle.std.specs.declared.cmp.Reverse.{Reverse}
 use Rattle.trex_merge.specs.Order.{BeginsNotBefore, is_before}
 use Rattle.trex_merge.proofs.FeedLemmas.{slice_get-set_other}
+use Rattle.trex_merge.proofs.KeyLemmas.{not_before_itself}
 use Rattle.trex_sched.specs.declared.head.Head.{Head}
 use Rattle.trex_sched.specs.declared.slot.Slot.{Slot}
 use Rattle.trex_sched.specs.Entries.{key_of}
-use Rattle.trex_sched.specs.Heads.{AreHeads, compare_heads, head_of, heads_at, IsFirst, IsHeadIn, least_first, with_first}
+use Rattle.trex_sched.specs.Heads.{AreHeads, compare_heads, head_of, heads_at, HaveOwnStreams, IsFirst, IsHeadIn, least_first, with_first}
+use Rattle.trex_sched.proofs.Pairs.{all_more}
+use Rattle.trex_sched.proofs.RunLemmas.{all_get}
 
 -- ---- places of a list
 
@@ -58,6 +61,48 @@ set-last {X = X} (a ∷ xs) x y = ap (λ (l : List X). a ∷ l) (set-last xs x y
 pub all_places : {X : Type 0} (P : X → Type 0) (xs : List X) → ((p : ℕ) (x : X) → slice_get xs p ≡ Some x → P x) → AllByRecursion P xs
 all_places P [] each = tt
 all_places P (a ∷ xs) each = (each zero a refl, all_places P xs (λ p x there. each (suc p) x there))
+
+-- ---- lists whose packets have streams of their own
+
+-- packets of one stream stand in one list
+pub own_place : (lists : List (List Slot)) (p q : ℕ) (a b : Slot) (xs ys : List Slot) → HaveOwnStreams lists
+    → slice_get lists p ≡ Some (a ∷ xs) → slice_get lists q ≡ Some (b ∷ ys) → a.stream ≡ b.stream → p ≡ q
+own_place [] p q a b xs ys own at at' same = absurd cc
+own_place (list ∷ lists) zero zero a b xs ys own at at' same = refl
+own_place (list ∷ lists) zero (suc q) a b xs ys own at at' same =
+    let is : list ≡ a ∷ xs = cc in
+    let across = all_get (λ zs. AllByRecursion (λ x. AllByRecursion (λ y. ¬ (x.stream ≡ y.stream)) zs) list) lists q (b ∷ ys) own.0 at' in
+    absurd ((subst (AllByRecursion (λ x. AllByRecursion (λ y. ¬ (x.stream ≡ y.stream)) (b ∷ ys))) is across).0.0 same)
+own_place (list ∷ lists) (suc p) zero a b xs ys own at at' same =
+    let is : list ≡ b ∷ ys = cc in
+    let across = all_get (λ zs. AllByRecursion (λ x. AllByRecursion (λ y. ¬ (x.stream ≡ y.stream)) zs) list) lists p (a ∷ xs) own.0 at in
+    absurd ((subst (AllByRecursion (λ x. AllByRecursion (λ y. ¬ (x.stream ≡ y.stream)) (a ∷ xs))) is across).0.0 (sym same))
+own_place (list ∷ lists) (suc p) (suc q) a b xs ys own at at' same = ap suc (own_place lists p q a b xs ys own.1 at at' same)
+
+-- what holds of each element and of what is written holds after a write
+all_set : {X : Type 0} (P : X → Type 0) (xs : List X) (p : ℕ) (y : X) → AllByRecursion P xs → P y → AllByRecursion P (set xs p y)
+all_set P [] p y all new = tt
+all_set P (x ∷ xs) zero y all new = (new, all.1)
+all_set P (x ∷ xs) (suc p) y all new = (all.0, all_set P xs p y all.1 new)
+
+-- they still have them after one list's first packet goes
+pub own_rest : (lists : List (List Slot)) (p : ℕ) (a : Slot) (rest : List Slot) → slice_get lists p ≡ Some (a ∷ rest) → HaveOwnStreams lists
+    → HaveOwnStreams (set lists p rest)
+own_rest [] p a rest at own = tt
+own_rest (list ∷ lists) zero a rest at own =
+    let is : list ≡ a ∷ rest = cc in (
+      all_more (λ ys. AllByRecursion (λ x. AllByRecursion (λ y. ¬ (x.stream ≡ y.stream)) ys) list)
+          (λ ys. AllByRecursion (λ x. AllByRecursion (λ y. ¬ (x.stream ≡ y.stream)) ys) rest) lists
+          (λ ys all. (subst (AllByRecursion (λ x. AllByRecursion (λ y. ¬ (x.stream ≡ y.stream)) ys)) is all).1) own.0,
+      own.1,
+    )
+own_rest (list ∷ lists) (suc p) a rest at own =
+    let Across = λ (ys : List Slot). AllByRecursion (λ x. AllByRecursion (λ y. ¬ (x.stream ≡ y.stream)) ys) list in
+    let whole = all_get Across lists p (a ∷ rest) own.0 at in (
+      all_set Across lists p rest own.0
+          (all_more (λ x. AllByRecursion (λ y. ¬ (x.stream ≡ y.stream)) (a ∷ rest)) (λ x. AllByRecursion (λ y. ¬ (x.stream ≡ y.stream)) rest) list (λ x all. all.1) whole),
+      own_rest lists p a rest at own.1,
+    )
 
 -- ---- how many heads stand for a place
 
@@ -211,14 +256,23 @@ all_empty lists known = all_places (λ list. list ≡ []) lists (λ p list there
     is_empty p [] there = refl
     is_empty p (slot ∷ rest) there = let some = known.all p slot rest there in absurd (omega arith)
 
--- what comes before in the order is the less of two heads
-before_is_less : (a b : Slot) (p q : ℕ) → IsTrue (is_before (key_of a) (key_of b)) → lt_by_cmp compare_heads (head_of a p) (head_of b q) ≡ true
-before_is_less a b p q before = grind (arith, nat_tests)
+-- of two packets with different streams the one that comes before has the less head
+before_is_less : (a b : Slot) (p q : ℕ) → ¬ (a.stream ≡ b.stream) → IsTrue (is_before (key_of a) (key_of b))
+    → lt_by_cmp compare_heads (head_of a p) (head_of b q) ≡ true
+before_is_less a b p q apart before = grind (arith, nat_tests)
 
-pub least_head : (lists : List (List Slot)) (head : Reverse Head) (heads : List (Reverse Head)) (slot : Slot) (place : ℕ) → head.0 ≡ head_of slot place
+pub least_head : (lists : List (List Slot)) (head : Reverse Head) (heads : List (Reverse Head)) (slot : Slot) (rest : List Slot) (place : ℕ)
+    → head.0 ≡ head_of slot place → slice_get lists place ≡ Some (slot ∷ rest) → HaveOwnStreams lists
     → AreHeads lists heads → IsUpperBound least_first head heads → AllByRecursion (BeginsNotBefore key_of slot) lists
-least_head lists head heads slot place is known above = all_places (BeginsNotBefore key_of slot) lists (λ p list there. not_before p list there)
+least_head lists head heads slot rest place is at own known above = all_places (BeginsNotBefore key_of slot) lists (λ p list there. not_before p list there)
   where
+    its_own : (p : ℕ) (first : Slot) (others : List Slot) → p ≡ place → slice_get lists p ≡ Some (first ∷ others)
+        → IsTrue (is_before (key_of first) (key_of slot)) → ⊥
+    its_own p first others here there before =
+        let same : slice_get lists p ≡ slice_get lists place = ap (slice_get lists) here in
+        let first_is : first ≡ slot = cc in
+        not_before_itself (key_of slot) (subst (λ s. IsTrue (is_before (key_of s) (key_of slot))) first_is before)
+
     both : (heads : List (Reverse Head)) → AllByRecursion (λ h. IsHeadIn lists h.0) heads → IsUpperBound least_first head heads
         → AllByRecursion (λ h. IsHeadIn lists h.0 × (lt_by_cmp least_first head h ≡ false)) heads
     both [] all above = tt
@@ -226,16 +280,20 @@ least_head lists head heads slot place is known above = all_places (BeginsNotBef
 
     not_before : (p : ℕ) (list : List Slot) → slice_get lists p ≡ Some list → BeginsNotBefore key_of slot list
     not_before p [] there = tt
-    not_before p (first ∷ rest) there = λ before.
-        let one = found (λ h. IsHeadIn lists h.0 × (lt_by_cmp least_first head h ≡ false)) p heads (both heads known.each above) (known.all p first rest there) in
-        let mine = one.2.0 in
-        let same : slice_get lists one.0.0.place ≡ slice_get lists p = ap (slice_get lists) one.1 in
-        let here = mine.there in
-        let first_is : mine.slot ≡ first = cc in
-        let less = before_is_less first slot p place before in
-        let its : one.0.0 ≡ head_of first p = cc in
-        let not_less = one.2.1 in
-        absurd cc
+    not_before p (first ∷ others) there = λ before. elim (here_or_not p place) [
+      | inl here ↦ its_own p first others here there before
+      | inr apart ↦
+          let one = found (λ h. IsHeadIn lists h.0 × (lt_by_cmp least_first head h ≡ false)) p heads (both heads known.each above) (known.all p first others there) in
+          let mine = one.2.0 in
+          let same : slice_get lists one.0.0.place ≡ slice_get lists p = ap (slice_get lists) one.1 in
+          let at_one = mine.there in
+          let first_is : mine.slot ≡ first = cc in
+          let differ : ¬ (first.stream ≡ slot.stream) = λ e. apart (own_place lists p place first slot others rest own there at e) in
+          let less = before_is_less first slot p place differ before in
+          let its : one.0.0 ≡ head_of first p = cc in
+          let not_less = one.2.1 in
+          absurd cc
+    ]
 
 -- ---- what the walks do
 
@@ -293,14 +351,14 @@ pub record BeginsAt (lists : List (List Slot)) (place : ℕ) : Type 0 where
 not_less_itself : (head : Reverse Head) → lt_by_cmp least_first head head ≡ false
 not_less_itself head = grind (arith, nat_tests)
 
-pub begins_at : (lists : List (List Slot)) (head : Reverse Head) (others : List (Reverse Head)) → AreHeads lists (head ∷ others)
-    → IsUpperBound least_first head others → BeginsAt lists head.0.place
-begins_at lists head others known above =
+pub begins_at : (lists : List (List Slot)) (head : Reverse Head) (others : List (Reverse Head)) → HaveOwnStreams lists
+    → AreHeads lists (head ∷ others) → IsUpperBound least_first head others → BeginsAt lists head.0.place
+begins_at lists head others own known above =
     let mine = known.each.0 in record {
       slot = mine.slot;
       rest = mine.rest;
       there = mine.there;
-      least = least_head lists head (head ∷ others) mine.slot head.0.place mine.is known (not_less_itself head, above);
+      least = least_head lists head (head ∷ others) mine.slot mine.rest head.0.place mine.is mine.there own known (not_less_itself head, above);
     }
 
 -- ---- the first head and the others
@@ -313,11 +371,11 @@ none_first lists (Some head) others is known least = absurd cc
 
 -- the first head stands for the first packet in order
 pub some_first : (lists : List (List Slot)) (first : Option Head) (others : List (Reverse Head)) (head : Head) → first ≡ Some head
-    → AreHeads lists (with_first first others) → IsFirst first others → BeginsAt lists head.place
-some_first lists None others head is known least = absurd cc
-some_first lists (Some first) others head is known least =
+    → HaveOwnStreams lists → AreHeads lists (with_first first others) → IsFirst first others → BeginsAt lists head.place
+some_first lists None others head is own known least = absurd cc
+some_first lists (Some first) others head is own known least =
     let same : first ≡ head = cc in
-    subst (λ (h : Head). BeginsAt lists h.place) same (begins_at lists (record { 0 = first }) others known least)
+    subst (λ (h : Head). BeginsAt lists h.place) same (begins_at lists (record { 0 = first }) others own known least)
 
 -- the others stand for the other lists
 pub first_goes : (lists : List (List Slot)) (first : Option Head) (others : List (Reverse Head)) (head : Head) → first ≡ Some head
@@ -336,11 +394,9 @@ some_then Equal p rest is = is
 some_then Greater p rest is = refl
 
 pub less_is : (a b : Head)
-    → is_some_and is_lt (partial_ordering_then (Some (nat_cmp a.time b.time))
-    (partial_ordering_then (Some (nat_cmp a.stream b.stream)) (partial_ordering_then (Some (nat_cmp a.number b.number)) (Some (nat_cmp a.place b.place)))))
+    → is_some_and is_lt (partial_ordering_then (Some (nat_cmp a.time b.time)) (partial_ordering_then (Some (nat_cmp a.stream b.stream)) (Some (nat_cmp a.place b.place))))
     ≡ lt_by_cmp compare_heads a b
-less_is a b =
-    ap (is_some_and is_lt) (some_then (nat_cmp a.time b.time) _ _ (some_then (nat_cmp a.stream b.stream) _ _ (some_then (nat_cmp a.number b.number) _ _ refl)))
+less_is a b = ap (is_some_and is_lt) (some_then (nat_cmp a.time b.time) _ _ (some_then (nat_cmp a.stream b.stream) _ _ refl))
 
 -- of two heads the less one isn't after the other
 less_first : (a b : Reverse Head) → lt_by_cmp compare_heads a.0 b.0 ≡ true → lt_by_cmp least_first a b ≡ false

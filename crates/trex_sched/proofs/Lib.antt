@@ -11,6 +11,7 @@ mod Later
 mod Pairs
 mod Heads
 mod Shares
+mod Firsts
 mod EntryOrder
 mod Visits
 mod Numbered

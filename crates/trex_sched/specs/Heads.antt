@@ -8,11 +8,11 @@ use Rattle.std.specs.declared.cmp.Reverse.{Reverse}
 use Rattle.trex_sched.specs.declared.head.Head.{Head}
 use Rattle.trex_sched.specs.declared.slot.Slot.{Slot}
 use Rattle.trex_sched.specs.Entries.{key_of}
-use Rattle.trex_merge.specs.Order.{AreDistinct, IsRising, joined}
+use Rattle.trex_merge.specs.Order.{AreDistinct, EachPair, IsRising, joined}
 
 -- the head of a list at a place that begins with a slot
 abbrev pub head_of : Slot → ℕ → Head
-head_of slot place = record { time = slot.time; stream = slot.stream; number = slot.number; place = place }
+head_of slot place = record { time = slot.time; stream = slot.stream; place = place }
 
 -- a head is that of the list at its place
 pub record IsHeadIn (lists : List (List Slot)) (head : Head) : Type 0 where
@@ -31,10 +31,9 @@ pub record AreHeads (lists : List (List Slot)) (heads : List (Reverse Head)) : T
   pub once : (place : ℕ) → heads_at place heads ≤ 1
   pub all : (place : ℕ) (slot : Slot) (rest : List Slot) → slice_get lists place ≡ Some (slot ∷ rest) → 0 < heads_at place heads
 
--- by time, then by stream, then by number, then by place
+-- by time, then by stream, then by place
 abbrev pub compare_heads : Head → Head → Ordering
-compare_heads a b =
-    ordering_then (nat_cmp a.time b.time) (ordering_then (nat_cmp a.stream b.stream) (ordering_then (nat_cmp a.number b.number) (nat_cmp a.place b.place)))
+compare_heads a b = ordering_then (nat_cmp a.time b.time) (ordering_then (nat_cmp a.stream b.stream) (nat_cmp a.place b.place))
 
 -- the least is the first
 abbrev pub least_first : Reverse Head → Reverse Head → Ordering
@@ -50,10 +49,16 @@ abbrev pub IsFirst : Option Head → List (Reverse Head) → Type 0
 IsFirst None others = others ≡ []
 IsFirst (Some first) others = IsUpperBound least_first (record { 0 = first }) others
 
--- Lists that rise, with no packet twice, whose heads are a least one and the others, which stand in a heap with the least of them at its top.
+-- packets of two lists at different places have different streams
+abbrev pub HaveOwnStreams : List (List Slot) → Type 0
+HaveOwnStreams lists = EachPair (λ xs ys. AllByRecursion (λ x. AllByRecursion (λ y. ¬ (x.stream ≡ y.stream)) ys) xs) lists
+
+-- Lists that rise, with no packet twice and no stream in two, whose heads are a least one and the others, which stand in a heap with the least
+-- of them at its top.
 pub record AreInOrder (lists : List (List Slot)) (first : Option Head) (others : List (Reverse Head)) : Type 0 where
   pub rising : AllByRecursion (IsRising key_of) lists
   pub distinct : AreDistinct key_of (joined lists)
+  pub apart : HaveOwnStreams lists
   pub known : AreHeads lists (with_first first others)
   pub least : IsFirst first others
   pub heap : IsHeap least_first others

@@ -5,12 +5,12 @@ use crate::{Mode, Period};
 /// A stream as a chain visits it.
 #[derive(Clone, Copy, Debug, PartialEq, Eq)]
 pub struct Leg {
+    /// The time between two packets of a burst.
+    pub period: Period,
     /// The stream's position in the profile.
     pub stream: u32,
     /// The gap before each of its runs, in nanoseconds.
     pub isg: u64,
-    /// The time between two packets of a burst.
-    pub period: Period,
     /// How it sends its packets in each run.
     pub mode: Mode,
     /// After so many visits the chain stops; 0 where it doesn't.

@@ -26,8 +26,8 @@ pub(crate) fn begin(chain: &ChainSpec, place: usize, visit: u64, t: u64, limit: 
         return None;
     }
     Some(Run {
-        place,
         leg,
+        place,
         visit,
         start: t + leg.isg,
     })

@@ -16,10 +16,10 @@ use std::marker::Model;
 /// Where a walk stands: at a packet of a run, or at the end.
 #[derive(Clone, Copy)]
 struct Cursor {
-    run: Run,
     next: Option<Slot>,
     /// The way from `next` to the core's later packets of the same burst, where there are some.
     stride: Option<Stride>,
+    run: Run,
 }
 
 /// Goes to the core's first packet from packet `from` of the cursor's run on, in this run or a later one.
@@ -75,11 +75,12 @@ fn step(chain: &ChainSpec, core: u64, cores: u64, duration: u64, cursor: &mut Cu
 /// It takes no memory.
 #[derive(Drop)]
 pub struct Walk<'p> {
-    chain: &'p ChainSpec,
-    core: u64,
+    // What each step reads stands together.
     cores: u64,
     duration: u64,
     cursor: Cursor,
+    chain: &'p ChainSpec,
+    core: u64,
 }
 
 impl<'p> Model for Walk<'p> {
@@ -103,11 +104,11 @@ impl<'p> Walk<'p> {
         let core = u64::from(core);
         let cores = u64::from(cores);
         Walk {
-            chain,
-            core,
             cores,
             duration,
             cursor: first_of(chain, core, cores, duration),
+            chain,
+            core,
         }
     }
 
@@ -149,22 +150,22 @@ fn first_of(chain: &ChainSpec, core: u64, cores: u64, duration: u64) -> Cursor
     match begin(chain, 0, 0, 0, duration) {
         Some(run) => {
             let mut cursor = Cursor {
-                run,
                 next: None,
                 stride: None,
+                run,
             };
             seek(chain, core, cores, duration, &mut cursor, 0);
             cursor
         }
         None => Cursor {
+            next: None,
+            stride: None,
             run: Run {
-                place: 0,
                 leg: chain.legs[0],
+                place: 0,
                 visit: 0,
                 start: 0,
             },
-            next: None,
-            stride: None,
         },
     }
 }

@@ -68,6 +68,8 @@ impl<'p> Walks<'p> {
         let mut walks = Vec::with_capacity(alloc, chains.len())?;
         let mut heads = BinaryHeap::with_capacity(alloc, chains.len())?;
         for chain in chains {
+            // For the proof that a place has 32 bits: each chain begins with a stream of its own.
+            let _stream = chain.legs[0].stream;
             let walk = Walk::start(chain, core, cores, duration);
             add(&mut walks, &mut heads, walk)?;
         }
@@ -86,7 +88,7 @@ impl<'p> Walks<'p> {
         // For the proof that the least head is the first of all packets.
         least_goes_first::<Slot>();
         let head = self.first?;
-        let walk = &self.walks[head.place];
+        let walk = &self.walks[head.place as usize];
         walk.peek()
     }
 
@@ -113,6 +115,7 @@ fn add<'p>(
     heads: &mut BinaryHeap<Reverse<Head>>,
     walk: Walk<'p>,
 ) -> Result<(), Memory>
+    requires few { vec_len walks.old < 2 ^ 32 }
     requires known { AreHeads walks.old.items (heap_items heads.old) }
     requires heap { IsHeap least_first (heap_items heads.old) }
     ensures walks { OnOk result (walks.new.items ≡ walks.old.items ++ walk.entry ∷ []) }
@@ -120,7 +123,7 @@ fn add<'p>(
     ensures heap { OnOk result (IsHeap least_first (heap_items heads.new)) }
 {
     if let Some(slot) = walk.peek() {
-        heads.push(Reverse(Head::new(&slot, walks.len())))?;
+        heads.push(Reverse(Head::new(&slot, walks.len() as u32)))?;
     }
     walks.push(walk)?;
     Ok(())
@@ -132,7 +135,7 @@ fn take_next(
     walks: &mut Vec<Walk>,
     first: &mut Option<Head>,
     others: &mut BinaryHeap<Reverse<Head>>,
-    place: usize,
+    place: u32,
 ) -> Option<Slot>
     requires place { place < vec_len walks.old }
     requires others { AreHeads (slice_set walks.old.items place []) (heap_items others.old) }
@@ -143,7 +146,7 @@ fn take_next(
     ensures least { IsFirst first.new (heap_items others.new) }
     ensures heap { IsHeap least_first (heap_items others.new) }
 {
-    let walk = &mut walks[place];
+    let walk = &mut walks[place as usize];
     let slot = walk.peek();
     if slot.is_some() {
         walk.advance();

@@ -5,7 +5,8 @@ use Rattle.std.specs.List.{AllByRecursion, slice_get}
 use Rattle.trex_merge.specs.Order.{AreDistinct, IsRising, joined, ordered}
 use Rattle.trex_sched.specs.declared.slot.Slot.{Slot}
 use Rattle.trex_sched.specs.Entries.{key_of}
-use Rattle.trex_sched.proofs.Heads.{BeginsAt, first_goes, none_first, some_first}
+use Rattle.trex_sched.specs.Heads.{HaveOwnStreams}
+use Rattle.trex_sched.proofs.Heads.{BeginsAt, first_goes, none_first, own_rest, some_first}
 use Rattle.trex_sched.proofs.walks.Walks.next.Goals as goal
 
 -- without a head nothing is left
@@ -25,7 +26,7 @@ returns-in_err-head-clause-rest c = sym c.self.view_is ∙ nothing_left c ∙ sy
 pub take_next-requires-clause-place : goal.take_next-requires-clause-place
 take_next-requires-clause-place c =
     let s = c.self.inside in
-    let begin = some_first s.walks.items s.first (heap_items s.others) c.in_ok-head.head c.in_ok-head.was c.self.invariant.known c.self.invariant.least in
+    let begin = some_first s.walks.items s.first (heap_items s.others) c.in_ok-head.head c.in_ok-head.was c.self.invariant.apart c.self.invariant.known c.self.invariant.least in
     let within = slice_get_within s.walks.items c.in_ok-head.head.place _ begin.there in
     let whole = s.walks.ok in
     omega arith
@@ -39,7 +40,7 @@ take_next-requires-clause-others c =
 least : (c : goal.After-take_next) → BeginsAt c.self.inside.walks.items c.in_ok-head.head.place
 least c =
     let s = c.self.inside in
-    some_first s.walks.items s.first (heap_items s.others) c.in_ok-head.head c.in_ok-head.was c.self.invariant.known c.self.invariant.least
+    some_first s.walks.items s.first (heap_items s.others) c.in_ok-head.head c.in_ok-head.was c.self.invariant.apart c.self.invariant.known c.self.invariant.least
 
 list_is : (c : goal.After-take_next) → get_or c.self.inside.walks.items c.in_ok-head.head.place [] ≡ (least c).slot ∷ (least c).rest
 list_is c =
@@ -66,6 +67,7 @@ invariant_of-self c =
     record {
       rising = subst (AllByRecursion (IsRising key_of)) (sym (walks_are c)) (laws.rising lists place slot rest (least c).there c.self.invariant.rising);
       distinct = subst (λ (l : List (List Slot)). AreDistinct key_of (joined l)) (sym (walks_are c)) (laws.distinct lists place slot rest (least c).there c.self.invariant.distinct);
+      apart = subst HaveOwnStreams (sym (walks_are c)) (own_rest lists place slot rest (least c).there c.self.invariant.apart);
       known = c.take_next.ensures.known;
       least = c.take_next.ensures.least;
       heap = c.take_next.ensures.heap;

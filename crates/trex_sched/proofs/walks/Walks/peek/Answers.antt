@@ -19,7 +19,7 @@ returns-in_err-head c =
 pub index-walk-requires : goal.index-walk-requires
 index-walk-requires c =
     let s = c.self.inside in
-    let begin = some_first s.walks.items s.first (heap_items s.others) c.in_ok-head.head c.in_ok-head.was c.self.invariant.known c.self.invariant.least in
+    let begin = some_first s.walks.items s.first (heap_items s.others) c.in_ok-head.head c.in_ok-head.was c.self.invariant.apart c.self.invariant.known c.self.invariant.least in
     let within = slice_get_within s.walks.items c.in_ok-head.head.place _ begin.there in
     let whole = s.walks.ok in
     omega arith
@@ -29,7 +29,7 @@ returns c =
     let s = c.self.inside in
     let lists = s.walks.items in
     let place = c.in_ok-head.head.place in
-    let begin = some_first lists s.first (heap_items s.others) c.in_ok-head.head c.in_ok-head.was c.self.invariant.known c.self.invariant.least in
+    let begin = some_first lists s.first (heap_items s.others) c.in_ok-head.head c.in_ok-head.was c.self.invariant.apart c.self.invariant.known c.self.invariant.least in
     let list_is : c.index-walk.result.now ≡ begin.slot ∷ begin.rest =
     c.index-walk.ensures ∙ get_or_from_slice_get lists place (begin.slot ∷ begin.rest) c.index-walk.result.now begin.there in
     let first = c.least_goes_first.ensures.first lists place begin.slot begin.rest begin.there c.self.invariant.rising c.self.invariant.distinct begin.least in
