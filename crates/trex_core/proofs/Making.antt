@@ -5,7 +5,7 @@ use Rattle.std.proofs.lemmas.List.{length-map, map_push, take_more}
 use Rattle.std.proofs.lemmas.Option.{slice_get-get_or, slice_get_within}
 use Rattle.trex_core.specs.Plan.{packet_bytes}
 use Rattle.trex_profile.specs.declared.member.StreamSpec.{StreamSpec}
-use Rattle.trex_profile.specs.Packets.{packet_of, program, stamp_at, values_of}
+use Rattle.trex_profile.specs.Packets.{packet_of, program, restarts, stamp_at, values_at, values_of, variables}
 use Rattle.trex_profile.specs.declared.flow.Flow.{Flow}
 use Rattle.trex_profile.specs.Flow.{stamp_with}
 use Rattle.trex_profile.specs.Spec.{IsSpecOf}
@@ -13,6 +13,7 @@ use Rattle.trex_profile.specs.Stream.{Stream}
 use Rattle.trex_sched.specs.declared.slot.Slot.{Slot}
 use Rattle.trex_stamp.specs.declared.header.Stamp.{Stamp}
 use Rattle.trex_vars.specs.declared.value.VarValue.{VarValue}
+use Rattle.trex_vars.specs.Variable.{Variable, variable_of}
 use Rattle.trex_vm.specs.declared.instr.Instr.{Instr}
 use Rattle.trex_vm.specs.Packet.{after_all, packet, stamped, trimmed, version_of}
 use Rattle.trex_vm.specs.Program.{AreValuesOf, IsFrontOf, IsProgram, IsTemplateOf, ProgramView}
@@ -42,6 +43,12 @@ packet_is p base slot s spec values stamp template time there is read due header
     ∙ ap (λ (h : Option Stamp). packet (program s) (values_of s slot.number slot.in_run) h template) stamped
     ∙ ap (λ (t : List ℕ). packet (program s) (values_of s slot.number slot.in_run) (stamp_at s slot.number (base * 10 ^ 9 + slot.time)) t) (bytes ∙ is.template)
     ∙ ap (λ (o : Option Stream). option_map_or (λ (q : Stream). packet_of q slot.number slot.in_run (base * 10 ^ 9 + slot.time)) o []) (sym there)
+
+-- a stream without variables has no values
+pub no_values : (s : Stream) (spec : StreamSpec) (number place : ℕ) → IsSpecOf s spec → spec.vars.items ≡ [] → [] ≡ values_of s number place
+no_values s spec number place is none =
+    let variables_are : [] ≡ variables s = ap (map variable_of) (sym none) ∙ is.vars in
+    ap (λ (variables : List Variable). values_at variables (restarts s) number place) variables_are
 
 -- the version of a packet's latency header is its flow's
 pub version-stamp_with : (flow : Option Flow) (number time : ℕ)

@@ -113,6 +113,10 @@ fn put_packet(
     ensures registers { map values_by registers.new ≡ map values_by registers.old }
 {
     let position = slot.stream as usize;
+    // A stream without variables has no values, and its registers needn't be looked at.
+    if plan.stream(position).vars.is_empty() {
+        return put_values(plan, slot, &[], batch);
+    }
     registers[position].go_to(slot.number, slot.in_run);
     put_values(plan, slot, registers[position].values(), batch)
 }

@@ -1,15 +1,27 @@
-use Rattle.std.proofs.Common.{◌≡◌, ◌<◌, ◌∙◌, Option, length, slice_get, sym, ap, subst, arith}
+use Rattle.std.proofs.Common.{◌≡◌, ◌<◌, ◌∙◌, Option, [], length, slice_get, sym, ap, subst, arith}
+use Rattle.std.proofs.lemmas.Bool.Decides.{nat_tests}
 use Rattle.std.proofs.Math.Seq.{map-set_same}
-use Rattle.std.proofs.lemmas.List.{get_or-set_same}
+use Rattle.std.proofs.lemmas.List.{get_or-set_same, nil_from_length}
 use Rattle.std.specs.Option.{IsSomeAnd}
 use Rattle.trex_core.specs.Registers.{Standing, values_by}
-use Rattle.trex_core.proofs.Making.{row_is, rows_long, some_is}
+use Rattle.trex_core.proofs.Making.{no_values, row_is, rows_long, some_is}
 use Rattle.trex_profile.specs.Packets.{values_of}
+use Rattle.trex_profile.specs.Spec.{IsSpecOf}
 use Rattle.trex_profile.specs.Stream.{Stream}
 use Rattle.trex_core.proofs.maker.put_packet.Goals as goal
 
 pub put_values-requires-clause-values : goal.put_values-requires-clause-values
 put_values-requires-clause-values c =
+    let p = c.args.plan.now.profile in
+    let slot = c.args.slot.now in
+    let spec = c.stream.result.now in
+    let s = some_is (slice_get p slot.stream) (λ s. IsSpecOf s spec) c.stream.ensures in
+    let empty : length spec.vars.items ≡ 0 = grind (arith, nat_tests) in
+    let none = no_values s.0 spec slot.number slot.in_run s.2 (nil_from_length spec.vars.items empty) in
+    subst (λ (o : Option Stream). IsSomeAnd o (λ stream. [] ≡ values_of stream slot.number slot.in_run)) (sym s.1) none
+
+pub put_values-requires-2-clause-values : goal.put_values-requires-2-clause-values
+put_values-requires-2-clause-values c =
     let p = c.args.plan.now.profile in
     let slot = c.args.slot.now in
     let rows = c.args.registers.now in
